@@ -1,0 +1,17 @@
+pub mod Name
+pub mod Bytes
+pub mod Header
+pub mod Hash
+pub mod Route
+pub mod Packet
+pub mod Errors
+pub mod Graph
+pub mod Visit
+pub mod Leg
+pub mod Valid
+pub mod Start
+pub mod Edit
+pub mod Generations
+pub mod Journey
+pub mod Lawful
+pub mod Count
