@@ -1,0 +1,16 @@
+use Rattle.std.proofs.Common.{◌∙◌, ap, sym}
+use Rattle.std.specs.Prelude.{Some, option_map}
+use Rattle.vg_outside.specs.Files.{file}
+use Rattle.vg_outside.proofs.FolderLemmas.{file_of}
+use Rattle.vg_outside.proofs.file_map.FileMap.get.Goals as goal
+
+pub returns-in-Some : goal.returns-in-Some
+returns-in-Some c =
+    ap Some c.as_slice.ensures.value
+    ∙ (ap (option_map (λ v. v.items)) c.in-Some.ensures.value
+    ∙ (sym (file_of c.self.inside.files c.args.name.now) ∙ ap (λ files. file files c.args.name.now) c.self.view_is))
+
+pub returns-in-None : goal.returns-in-None
+returns-in-None c =
+    ap (option_map (λ v. v.items)) c.in-None.ensures.value
+    ∙ (sym (file_of c.self.inside.files c.args.name.now) ∙ ap (λ files. file files c.args.name.now) c.self.view_is)

@@ -1,0 +1,24 @@
+//! The world outside: a folder of files and a sink of bytes.
+//!
+//! `Folder` and `Sink` are what a run reads and writes through. `MemoryFolder` and `MemorySink` fail
+//! where they are told to, `SureFolder` and `SureSink` at want of memory alone, and `RealFolder` and
+//! `RealSink` stand for the files of the system and its standard output.
+#![tactic(auto)]
+
+pub mod calls;
+pub mod file_map;
+pub mod folder;
+pub mod memory;
+pub mod real;
+pub mod sink;
+pub mod sure;
+#[cfg(test)]
+mod tests;
+
+pub use calls::Calls;
+pub use file_map::FileMap;
+pub use folder::{Folder, LoadError};
+pub use memory::{MemoryFolder, MemorySink};
+pub use real::{RealFolder, RealSink};
+pub use sink::{Failed, Sink};
+pub use sure::{SureFolder, SureSink};

@@ -1,0 +1,113 @@
+//! The files of the system, and its standard output.
+ghost use Rattle.std.specs.Prelude.{◌≡◌, ◌≤◌, ◌<◌, None, length, IfOk, is_ok, if◌then◌else◌};
+ghost use Rattle.vg_outside.specs.Files.{risen};
+
+use crate::folder::{Folder, LoadError};
+use crate::sink::{Failed, Sink};
+use std::io::{ErrorKind, Read, Write};
+use std::rt::Files;
+use std::{fs, io};
+use vg_model::Bytes;
+
+/// The files of the system, by their paths. Contracts know nothing of what they hold. Each `Err`
+/// raises the count of faults, which is one for all names and stays at the greatest `u64`.
+///
+/// A load reads no more than the bytes that it gives. A save makes a new file or replaces the old
+/// one; where it fails, a front of the bytes may stand there.
+#[derive(Drop)]
+pub struct RealFolder<R> {
+    rt: R,
+    pub faults: u64,
+}
+
+impl<R> RealFolder<R> {
+    /// The files of a runtime.
+    pub fn new(rt: R) -> RealFolder<R>
+        ensures { result.faults ≡ 0 }
+    {
+        RealFolder { rt, faults: 0 }
+    }
+}
+
+/// The first bytes of a file, at most `limit + 1` of them. No more are read.
+fn read_first<R: Files + AllocGlobal>(rt: &R, name: &str, limit: usize) -> io::Result<Vec<u8>> {
+    let most = u64::try_from(limit).unwrap_or(u64::MAX).saturating_add(1);
+    let mut bytes = Vec::new(rt.alloc());
+    fs::open(rt, name)?.take(most).read_to_end(&mut bytes)?;
+    Ok(bytes)
+}
+
+impl<R: Files + AllocGlobal> Folder for RealFolder<R> {
+    ghost contents = { λ _. None };
+
+    ghost faults = { λ folder name. folder.faults };
+
+    fn load(&mut self, name: &str, limit: usize) -> Result<Bytes, LoadError>
+        ensures later { self.old.faults ≤ self.new.faults }
+        ensures faults { self.new.faults ≡ (if is_ok result then self.old.faults else risen self.old.faults) }
+    {
+        match read_first(&self.rt, name, limit) {
+            Ok(bytes) => Ok(Bytes::from_vec(bytes)),
+            Err(e) => {
+                self.faults = self.faults.saturating_add(1);
+                if e.kind() == ErrorKind::OutOfMemory {
+                    Err(LoadError::Memory)
+                } else {
+                    Err(LoadError::Failed)
+                }
+            }
+        }
+    }
+
+    fn save(&mut self, name: &str, bytes: &[u8]) -> Result<(), Failed>
+        ensures later { self.old.faults ≤ self.new.faults }
+        ensures faults { self.new.faults ≡ (if is_ok result then self.old.faults else risen self.old.faults) }
+    {
+        if fs::write(&self.rt, name, bytes).is_err() {
+            self.faults = self.faults.saturating_add(1);
+            return Err(Failed);
+        }
+        Ok(())
+    }
+}
+
+/// The standard output. Contracts know nothing of what was written. Each `Err` raises the count of
+/// faults, which stays at the greatest `u64`.
+///
+/// A call of `put` is one write; one that takes no byte of a piece that has some, or that a signal
+/// interrupts, is `Failed`.
+#[derive(Drop)]
+pub struct RealSink<R> {
+    rt: R,
+    pub faults: u64,
+}
+
+impl<R> RealSink<R> {
+    /// The standard output of a runtime.
+    pub fn new(rt: R) -> RealSink<R>
+        ensures { result.faults ≡ 0 }
+    {
+        RealSink { rt, faults: 0 }
+    }
+}
+
+impl<R: Print> Sink for RealSink<R> {
+    ghost written = { λ _. None };
+
+    ghost faults = { λ sink. sink.faults };
+
+    fn put(&mut self, bytes: &[u8]) -> Result<usize, Failed>
+        ensures most { IfOk result (λ n. n ≤ length bytes.now) }
+        ensures some { IfOk result (λ n. 0 < length bytes.now → 0 < n) }
+        ensures later { self.old.faults ≤ self.new.faults }
+        ensures faults { self.new.faults ≡ (if is_ok result then self.old.faults else risen self.old.faults) }
+    {
+        match io::writer(&self.rt).write(bytes) {
+            Ok(n) if 0 < n || bytes.is_empty() => Ok(n),
+            _ => {
+                self.faults = self.faults.saturating_add(1);
+                Err(Failed)
+            }
+        }
+    }
+}
