@@ -1,0 +1,6 @@
+mod Examples
+pub mod RecordLemmas
+pub mod LimitLemmas
+pub mod RoundTripLemmas
+pub mod TimeLemmas
+mod WriteLemmas

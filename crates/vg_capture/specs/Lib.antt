@@ -1,0 +1,3 @@
+pub mod Savefile
+pub mod RoundTrip
+pub mod Time

@@ -1,0 +1,18 @@
+//! Savefiles: captures of packets in the format of pcap-savefile(5).
+#![tactic(auto)]
+
+pub mod captures;
+pub mod errors;
+pub mod laws;
+mod layout;
+mod reading;
+mod writing;
+
+pub use captures::{Capture, Captured, MOST_PACKETS, Packets, Sent};
+pub use errors::CaptureError;
+pub use layout::{LARGEST_FILE, LONGEST_RECORD};
+pub use reading::read_capture;
+pub use writing::write_capture;
+
+#[cfg(test)]
+mod tests;

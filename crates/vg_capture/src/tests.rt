@@ -1,0 +1,128 @@
+use crate::{Capture, CaptureError, Packets, Sent, read_capture, write_capture};
+use std::alloc::Global;
+use std::process::Abort;
+use std::test::Fail;
+use vg_model::Bytes;
+
+/// Little-endian, microseconds, version 2.4, snaplen 262,144, Ethernet.
+const HEADER: [u8; 24] = [
+    0xd4, 0xc3, 0xb2, 0xa1, 2, 0, 4, 0, 0, 0, 0, 0, 0, 0, 0, 0, 0, 0, 4, 0, 1, 0, 0, 0,
+];
+
+/// Big-endian, nanoseconds, version 2.4, snaplen 65,535, Ethernet, and one record: 3 bytes of 60 were
+/// captured at 1.999999999 seconds.
+const BIG_ENDIAN: [u8; 43] = [
+    0xa1, 0xb2, 0x3c, 0x4d, 0, 2, 0, 4, 0, 0, 0, 0, 0, 0, 0, 0, 0, 0, 0xff, 0xff, 0, 0, 0, 1, 0, 0,
+    0, 1, 0x3b, 0x9a, 0xc9, 0xff, 0, 0, 0, 3, 0, 0, 0, 60, 7, 8, 9,
+];
+
+/// The header with this byte at this place.
+fn header_with(rt: &impl Abort, place: usize, byte: u8) -> [u8; 24] {
+    let mut header = HEADER;
+    assert!(rt; place < 24);
+    header[place] = byte;
+    header
+}
+
+/// The header, and zero bytes behind it up to a length.
+fn zeros_up_to(alloc: Global, len: usize) -> Result<Vec<u8>, Fail> {
+    let mut file = HEADER.to_vec(alloc)?;
+    file.resize(len, 0)?;
+    Ok(file)
+}
+
+/// The savefile in which one packet of a capture was sent.
+fn written(
+    rt: &impl Abort,
+    alloc: Global,
+    capture: &Capture,
+    number: u32,
+    bytes: &[u8],
+) -> Result<Vec<u8>, Fail> {
+    assert!(rt; (number as usize) < capture.packets.as_slice().len());
+    assert!(rt; bytes.len() < 100);
+    let sent = [Sent {
+        number,
+        bytes: Bytes::from_vec(bytes.to_vec(alloc)?),
+    }];
+    Ok(write_capture(alloc, capture, &sent)?.into_vec())
+}
+
+#[test]
+fn reads_and_writes_big_endian_nanoseconds(rt: HostRuntime) -> Result<(), Fail> {
+    let capture = read_capture(rt.alloc(), &BIG_ENDIAN)?;
+    assert!(rt; capture.nanos);
+    assert_eq!(rt; capture.snaplen, 65_535);
+    let packets = capture.packets.as_slice();
+    assert_eq!(rt; packets.len(), 1);
+    assert_eq!(rt; packets[0].seconds, 1);
+    assert_eq!(rt; packets[0].fraction, 999_999_999);
+    assert_eq!(rt; packets[0].original, 60);
+    assert_eq!(rt; packets[0].bytes.as_slice(), [7, 8, 9].as_slice());
+
+    let file = written(&rt, rt.alloc(), &capture, 0, &[5, 6])?;
+    let expected = [
+        0x4d, 0x3c, 0xb2, 0xa1, 2, 0, 4, 0, 0, 0, 0, 0, 0, 0, 0, 0, 0xff, 0xff, 0, 0, 1, 0, 0, 0,
+        1, 0, 0, 0, 0xff, 0xc9, 0x9a, 0x3b, 2, 0, 0, 0, 60, 0, 0, 0, 5, 6,
+    ];
+    assert_eq!(rt; file.as_slice(), expected.as_slice());
+    Ok(())
+}
+
+#[test]
+fn an_empty_capture_is_its_header(rt: HostRuntime) -> Result<(), Fail> {
+    let capture = Capture {
+        nanos: false,
+        snaplen: 262_144,
+        packets: Packets::from_vec(Vec::new(rt.alloc())),
+    };
+    let file = write_capture(rt.alloc(), &capture, &[])?;
+    assert_eq!(rt; file.as_slice(), HEADER.as_slice());
+
+    let capture = read_capture(rt.alloc(), file.as_slice())?;
+    assert!(rt; !capture.nanos);
+    assert_eq!(rt; capture.snaplen, 262_144);
+    assert_eq!(rt; capture.packets.into_vec().len(), 0);
+    Ok(())
+}
+
+#[test]
+fn each_refusal_names_its_place(rt: HostRuntime) -> Result<(), Fail> {
+    let no_magic = header_with(&rt, 0, 0x0a);
+    let version_2_3 = header_with(&rt, 6, 3);
+    let upper_bit = header_with(&rt, 23, 0x10);
+    let large = zeros_up_to(rt.alloc(), 16_777_217)?;
+    let cases: [(&[u8], CaptureError); 8] = [
+        (&HEADER[..3], CaptureError::Truncated { offset: 0 }),
+        (&no_magic, CaptureError::NotPcap),
+        (&HEADER[..23], CaptureError::Truncated { offset: 0 }),
+        (&version_2_3, CaptureError::Version { major: 2, minor: 3 }),
+        (&upper_bit, CaptureError::LinkType(0x1000_0001)),
+        (&BIG_ENDIAN[..39], CaptureError::Truncated { offset: 24 }),
+        (&BIG_ENDIAN[..42], CaptureError::Truncated { offset: 40 }),
+        (&large, CaptureError::TooLarge),
+    ];
+    for (file, expected) in cases {
+        assert_eq!(rt; read_capture(rt.alloc(), file).err(), Some(expected));
+    }
+    Ok(())
+}
+
+#[test]
+fn as_many_packets_as_may_be(rt: HostRuntime) -> Result<(), Fail> {
+    let capture = read_capture(rt.alloc(), &zeros_up_to(rt.alloc(), 1_048_600)?)?;
+    assert_eq!(rt; capture.packets.as_slice().len(), 65_536);
+
+    let mut file = zeros_up_to(rt.alloc(), 1_048_616)?;
+    let refused = read_capture(rt.alloc(), &file).err();
+    assert_eq!(rt;
+        refused,
+        Some(CaptureError::TooManyPackets { offset: 1_048_600 })
+    );
+
+    assert!(rt; file.len() > 34);
+    file[34] = 5;
+    let refused = read_capture(rt.alloc(), &file).err();
+    assert_eq!(rt; refused, Some(CaptureError::RecordTooLong { offset: 24 }));
+    Ok(())
+}
