@@ -1,0 +1,225 @@
+//! Whole reports as text.
+ghost use Rattle.std.specs.Prelude.{◌≡◌, ◌≤◌, length, IfOk};
+ghost use Rattle.vg_report.specs.Examples.{two_of_three_sent, every_kind_of_line};
+
+use crate::{
+    ErrorCounts, NameCounts, Names, PacketEnd, PacketLine, PacketLines, Report, TraceLines,
+    write_report,
+};
+use std::alloc::{AllocError, Global};
+use std::process::Abort;
+use std::test::Fail;
+use vg_model::{DropError, Leg, Legs, Name};
+
+fn name(rt: &impl Abort, text: &[u8]) -> Name
+    ensures { result ≡ text.now }
+{
+    Name::of(text).expect(rt, "a name")
+}
+
+fn legs(way: &[Leg]) -> Legs
+    requires { length way.now ≤ 4 }
+    ensures { result ≡ way.now }
+{
+    let mut legs = Legs::new();
+    for leg in way {
+        legs.push(*leg);
+    }
+    legs
+}
+
+// One worker, three packets: two are transmitted, and one isn't IPv4.
+fn two_of_three(alloc: Global, rt: &impl Abort) -> Result<Report, AllocError>
+    ensures { IfOk result (λ report. report ≡ two_of_three_sent) }
+{
+    let interfaces = vec![in alloc; (name(rt, b"pg0"), 2)]?;
+    let nodes = vec![in alloc;
+        (name(rt, b"pg-input"), 3),
+        (name(rt, b"handoff-dequeue"), 0),
+        (name(rt, b"ethernet-input"), 3),
+        (name(rt, b"ip4-input"), 0),
+        (name(rt, b"ip4-lookup"), 0),
+        (name(rt, b"ip4-rewrite"), 0),
+        (name(rt, b"interface-output"), 0),
+        (name(rt, b"interface-tx"), 2),
+        (name(rt, b"error-drop"), 1),
+    ]?;
+    let errors = vec![in alloc; (name(rt, b"ethernet-input"), DropError::UnknownType, 1)]?;
+    let first = Leg {
+        worker: 0,
+        generation: 0,
+    };
+    let packets = vec![in alloc;
+        PacketLine {
+            legs: legs(&[first]),
+            congested: None,
+            end: PacketEnd::Tx {
+                interface: name(rt, b"pg0")
+            },
+        },
+        PacketLine {
+            legs: legs(&[first]),
+            congested: None,
+            end: PacketEnd::Tx {
+                interface: name(rt, b"pg0")
+            },
+        },
+        PacketLine {
+            legs: legs(&[first]),
+            congested: None,
+            end: PacketEnd::Dropped {
+                node: name(rt, b"ethernet-input"),
+                error: DropError::UnknownType
+            },
+        },
+    ]?;
+    Ok(Report {
+        workers: 1,
+        buffers: 4096,
+        generations: 1,
+        interfaces: NameCounts::from_vec(interfaces),
+        nodes: NameCounts::from_vec(nodes),
+        errors: ErrorCounts::from_vec(errors),
+        packets: PacketLines::from_vec(packets),
+        traces: TraceLines::from_vec(Vec::new(alloc)),
+    })
+}
+
+#[test]
+fn a_report_of_three_packets(rt: HostRuntime) -> Result<(), Fail> {
+    let report = two_of_three(rt.alloc(), &rt)?;
+    let text = write_report(rt.alloc(), &report).expect(&rt, "memory");
+    let expected = b"vgd report 1
+workers 1
+buffers 4096
+generations 1
+packets 3
+interface 0 pg0 tx 2
+node 0 pg-input 3
+node 1 handoff-dequeue 0
+node 2 ethernet-input 3
+node 3 ip4-input 0
+node 4 ip4-lookup 0
+node 5 ip4-rewrite 0
+node 6 interface-output 0
+node 7 interface-tx 2
+node 8 error-drop 1
+error ethernet-input unknown-type 1
+packet 0 0:0 tx pg0
+packet 1 0:0 tx pg0
+packet 2 0:0 drop ethernet-input unknown-type
+end
+";
+    assert_eq!(rt; text.as_slice(), expected.as_slice());
+    Ok(())
+}
+
+// Two workers, two generations and two interfaces: a packet is transmitted after a handoff, one finds a
+// queue full, and one has too many legs.
+fn every_kind(alloc: Global, rt: &impl Abort) -> Result<Report, AllocError>
+    ensures { IfOk result (λ report. report ≡ every_kind_of_line) }
+{
+    let interfaces = vec![in alloc; (name(rt, b"pg0"), 0), (name(rt, b"west"), 1)]?;
+    let nodes = vec![in alloc;
+        (name(rt, b"pg-input"), 3),
+        (name(rt, b"error-drop"), 2),
+        (name(rt, b"hand"), 6),
+    ]?;
+    let errors = vec![in alloc;
+        (name(rt, b"hand"), DropError::Congestion, 1),
+        (name(rt, b"hand"), DropError::HandoffLimit, 1),
+    ]?;
+    let old = Leg {
+        worker: 0,
+        generation: 0,
+    };
+    let new = Leg {
+        worker: 0,
+        generation: 1,
+    };
+    let new_elsewhere = Leg {
+        worker: 1,
+        generation: 1,
+    };
+    let old_elsewhere = Leg {
+        worker: 1,
+        generation: 0,
+    };
+    let packets = vec![in alloc;
+        PacketLine {
+            legs: legs(&[old, new_elsewhere]),
+            congested: None,
+            end: PacketEnd::Tx {
+                interface: name(rt, b"west")
+            },
+        },
+        PacketLine {
+            legs: legs(&[old_elsewhere]),
+            congested: Some(64),
+            end: PacketEnd::Dropped {
+                node: name(rt, b"hand"),
+                error: DropError::Congestion
+            },
+        },
+        PacketLine {
+            legs: legs(&[new, new_elsewhere, new, new_elsewhere]),
+            congested: None,
+            end: PacketEnd::Dropped {
+                node: name(rt, b"hand"),
+                error: DropError::HandoffLimit
+            },
+        },
+    ]?;
+    let short = vec![in alloc; name(rt, b"pg-input"), name(rt, b"hand")]?;
+    let long = vec![in alloc;
+        name(rt, b"pg-input"),
+        name(rt, b"hand"),
+        name(rt, b"error-drop"),
+    ]?;
+    let traces = vec![in alloc; Names::from_vec(short), Names::from_vec(long)]?;
+    Ok(Report {
+        workers: 2,
+        buffers: 768,
+        generations: 2,
+        interfaces: NameCounts::from_vec(interfaces),
+        nodes: NameCounts::from_vec(nodes),
+        errors: ErrorCounts::from_vec(errors),
+        packets: PacketLines::from_vec(packets),
+        traces: TraceLines::from_vec(traces),
+    })
+}
+
+#[test]
+fn a_report_with_every_kind_of_line(rt: HostRuntime) -> Result<(), Fail> {
+    let report = every_kind(rt.alloc(), &rt)?;
+    let text = write_report(rt.alloc(), &report).expect(&rt, "memory");
+    let expected = b"vgd report 1
+workers 2
+buffers 768
+generations 2
+packets 3
+interface 0 pg0 tx 0
+interface 1 west tx 1
+node 0 pg-input 3
+node 1 error-drop 2
+node 2 hand 6
+error hand congestion 1
+error hand handoff-limit 1
+packet 0 0:0,1:1 tx west
+packet 1 1:0 congested 64 drop hand congestion
+packet 2 0:1,1:1,0:1,1:1 drop hand handoff-limit
+trace 0 pg-input hand
+trace 1 pg-input hand error-drop
+end
+";
+    assert_eq!(rt; text.as_slice(), expected.as_slice());
+    assert_eq!(rt; report.interfaces.into_vec().len(), 2);
+    assert_eq!(rt; report.nodes.into_vec().len(), 3);
+    assert_eq!(rt; report.errors.into_vec().len(), 2);
+    assert_eq!(rt; report.packets.into_vec().len(), 3);
+    let mut traces = report.traces.into_vec();
+    assert_eq!(rt; traces.len(), 2);
+    let last = traces.pop().ok_or("a trace")?;
+    assert_eq!(rt; last.into_vec().len(), 3);
+    Ok(())
+}

@@ -1,0 +1,261 @@
+//! Writing the text of a report. Each function appends to one growing buffer; where memory runs out it stops.
+ghost use Rattle.std.specs.Prelude.{◌≡◌, ◌++◌, [], ◌∷◌, decimal, flat_map, map, OnOk, IfOk};
+ghost use Rattle.vg_report.specs.Text.{line_text, numbered, count_line, head_lines, interface_line, node_line, error_line, leg_text, legs_word, further, congested_words, end_words, packet_line, trace_line, text};
+ghost use Rattle.vg_report.specs.Lawful.{IsLawful};
+
+use crate::lists::Names;
+use crate::reports::{PacketEnd, PacketLine, Report};
+use itoa::Buffer;
+use std::alloc::{AllocError, Global};
+use vg_model::{Bytes, DropError, Leg, Memory, Name};
+
+// Appends these bytes.
+fn put(out: &mut Vec<u8>, bytes: &[u8]) -> Result<(), AllocError>
+    ensures { OnOk result (out.new.items ≡ out.old.items ++ bytes.now) }
+{
+    out.extend_from_slice(bytes)
+}
+
+// Appends the digits of a number.
+fn put_decimal(out: &mut Vec<u8>, number: u64) -> Result<(), AllocError>
+    ensures { OnOk result (out.new.items ≡ out.old.items ++ decimal number) }
+{
+    put(out, Buffer::new().format(number).as_bytes())
+}
+
+// A further word of a line, behind the space that parts it from the word before.
+fn put_word(out: &mut Vec<u8>, word: &[u8]) -> Result<(), AllocError>
+    ensures { OnOk result (out.new.items ≡ out.old.items ++ 32 ∷ word.now) }
+{
+    put(out, b" ")?;
+    put(out, word)
+}
+
+// A further word that is a number.
+fn put_number(out: &mut Vec<u8>, number: u64) -> Result<(), AllocError>
+    ensures { OnOk result (out.new.items ≡ out.old.items ++ 32 ∷ decimal number) }
+{
+    put(out, b" ")?;
+    put_decimal(out, number)
+}
+
+fn end_line(out: &mut Vec<u8>) -> Result<(), AllocError>
+    ensures { OnOk result (out.new.items ≡ out.old.items ++ 10 ∷ []) }
+{
+    put(out, b"\n")
+}
+
+fn put_count_line(out: &mut Vec<u8>, word: &[u8], count: u64) -> Result<(), AllocError>
+    ensures { OnOk result (out.new.items ≡ out.old.items ++ line_text (count_line word.now count)) }
+{
+    put(out, word)?;
+    put_number(out, count)?;
+    end_line(out)
+}
+
+fn put_interface_line(
+    out: &mut Vec<u8>,
+    number: usize,
+    name: &Name,
+    count: u64,
+) -> Result<(), AllocError>
+    ensures { OnOk result (out.new.items ≡ out.old.items ++ line_text (interface_line number (name.now, count))) }
+{
+    put(out, b"interface")?;
+    put_number(out, number as u64)?;
+    put_word(out, name.bytes())?;
+    put_word(out, b"tx")?;
+    put_number(out, count)?;
+    end_line(out)
+}
+
+fn put_node_line(
+    out: &mut Vec<u8>,
+    number: usize,
+    name: &Name,
+    count: u64,
+) -> Result<(), AllocError>
+    ensures { OnOk result (out.new.items ≡ out.old.items ++ line_text (node_line number (name.now, count))) }
+{
+    put(out, b"node")?;
+    put_number(out, number as u64)?;
+    put_word(out, name.bytes())?;
+    put_number(out, count)?;
+    end_line(out)
+}
+
+fn put_error_line(
+    out: &mut Vec<u8>,
+    node: &Name,
+    error: DropError,
+    count: u64,
+) -> Result<(), AllocError>
+    ensures { OnOk result (out.new.items ≡ out.old.items ++ line_text (error_line (node.now, error, count))) }
+{
+    put(out, b"error")?;
+    put_word(out, node.bytes())?;
+    put_word(out, error.word().as_bytes())?;
+    put_number(out, count)?;
+    end_line(out)
+}
+
+fn put_leg(out: &mut Vec<u8>, leg: Leg) -> Result<(), AllocError>
+    ensures { OnOk result (out.new.items ≡ out.old.items ++ leg_text leg) }
+{
+    put_decimal(out, u64::from(leg.worker))?;
+    put(out, b":")?;
+    put_decimal(out, u64::from(leg.generation))
+}
+
+// Appends the legs of a packet as one word.
+fn put_legs(out: &mut Vec<u8>, legs: &[Leg]) -> Result<(), AllocError>
+    ensures { OnOk result (out.new.items ≡ out.old.items ++ legs_word legs.now) }
+{
+    let Some((first, others)) = legs.split_first() else {
+        return Ok(());
+    };
+    put_leg(out, *first)?;
+    for leg in others {
+        put(out, b",")?;
+        put_leg(out, *leg)?;
+    }
+    Ok(())
+}
+
+// Appends how many frames a full queue had accepted, if one was the end.
+fn put_congested(out: &mut Vec<u8>, congested: Option<u64>) -> Result<(), AllocError>
+    ensures { OnOk result (out.new.items ≡ out.old.items ++ further (congested_words congested)) }
+{
+    if let Some(accepted) = congested {
+        put_word(out, b"congested")?;
+        put_number(out, accepted)?;
+    }
+    Ok(())
+}
+
+fn put_end(out: &mut Vec<u8>, end: &PacketEnd) -> Result<(), AllocError>
+    ensures { OnOk result (out.new.items ≡ out.old.items ++ further (end_words end.now)) }
+{
+    match end {
+        PacketEnd::Tx { interface } => {
+            put_word(out, b"tx")?;
+            put_word(out, interface.bytes())
+        }
+        PacketEnd::Dropped { node, error } => {
+            put_word(out, b"drop")?;
+            put_word(out, node.bytes())?;
+            put_word(out, error.word().as_bytes())
+        }
+    }
+}
+
+fn put_packet_line(out: &mut Vec<u8>, number: usize, packet: &PacketLine) -> Result<(), AllocError>
+    ensures { OnOk result (out.new.items ≡ out.old.items ++ line_text (packet_line number packet.now)) }
+{
+    put(out, b"packet")?;
+    put_number(out, number as u64)?;
+    put(out, b" ")?;
+    put_legs(out, packet.legs.as_slice())?;
+    put_congested(out, packet.congested)?;
+    put_end(out, &packet.end)?;
+    end_line(out)
+}
+
+// Appends the names as further words.
+fn put_names(out: &mut Vec<u8>, names: &[Name]) -> Result<(), AllocError>
+    ensures { OnOk result (out.new.items ≡ out.old.items ++ further names.now) }
+{
+    for name in names {
+        put_word(out, name.bytes())?;
+    }
+    Ok(())
+}
+
+fn put_trace_line(out: &mut Vec<u8>, number: usize, names: &Names) -> Result<(), AllocError>
+    ensures { OnOk result (out.new.items ≡ out.old.items ++ line_text (trace_line number names.now)) }
+{
+    put(out, b"trace")?;
+    put_number(out, number as u64)?;
+    put_names(out, names.as_slice())?;
+    end_line(out)
+}
+
+fn put_interface_lines(out: &mut Vec<u8>, interfaces: &[(Name, u64)]) -> Result<(), AllocError>
+    ensures { OnOk result (out.new.items ≡ out.old.items ++ flat_map line_text (numbered interface_line 0 interfaces.now)) }
+{
+    for (number, (name, count)) in interfaces.iter().enumerate() {
+        put_interface_line(out, number, name, *count)?;
+    }
+    Ok(())
+}
+
+fn put_node_lines(out: &mut Vec<u8>, nodes: &[(Name, u64)]) -> Result<(), AllocError>
+    ensures { OnOk result (out.new.items ≡ out.old.items ++ flat_map line_text (numbered node_line 0 nodes.now)) }
+{
+    for (number, (name, count)) in nodes.iter().enumerate() {
+        put_node_line(out, number, name, *count)?;
+    }
+    Ok(())
+}
+
+fn put_error_lines(out: &mut Vec<u8>, errors: &[(Name, DropError, u64)]) -> Result<(), AllocError>
+    ensures { OnOk result (out.new.items ≡ out.old.items ++ flat_map line_text (map error_line errors.now)) }
+{
+    for (node, error, count) in errors {
+        put_error_line(out, node, *error, *count)?;
+    }
+    Ok(())
+}
+
+fn put_packet_lines(out: &mut Vec<u8>, packets: &[PacketLine]) -> Result<(), AllocError>
+    ensures { OnOk result (out.new.items ≡ out.old.items ++ flat_map line_text (numbered packet_line 0 packets.now)) }
+{
+    for (number, packet) in packets.iter().enumerate() {
+        put_packet_line(out, number, packet)?;
+    }
+    Ok(())
+}
+
+fn put_trace_lines(out: &mut Vec<u8>, traces: &[Names]) -> Result<(), AllocError>
+    ensures { OnOk result (out.new.items ≡ out.old.items ++ flat_map line_text (numbered trace_line 0 traces.now)) }
+{
+    for (number, names) in traces.iter().enumerate() {
+        put_trace_line(out, number, names)?;
+    }
+    Ok(())
+}
+
+fn put_head_lines(out: &mut Vec<u8>, report: &Report) -> Result<(), AllocError>
+    ensures { OnOk result (out.new.items ≡ out.old.items ++ flat_map line_text (head_lines report.now)) }
+{
+    put(out, b"vgd report 1\n")?;
+    put_count_line(out, b"workers", u64::from(report.workers))?;
+    put_count_line(out, b"buffers", u64::from(report.buffers))?;
+    put_count_line(out, b"generations", u64::from(report.generations))?;
+    put_count_line(out, b"packets", report.packets.as_slice().len() as u64)
+}
+
+fn put_report(out: &mut Vec<u8>, report: &Report) -> Result<(), AllocError>
+    ensures { OnOk result (out.new.items ≡ out.old.items ++ text report.now) }
+{
+    put_head_lines(out, report)?;
+    put_interface_lines(out, report.interfaces.as_slice())?;
+    put_node_lines(out, report.nodes.as_slice())?;
+    put_error_lines(out, report.errors.as_slice())?;
+    put_packet_lines(out, report.packets.as_slice())?;
+    put_trace_lines(out, report.traces.as_slice())?;
+    put(out, b"end\n")
+}
+
+/// The text of a lawful report: the counts, a line for each packet, and the traces. Words are parted by one
+/// space, and each line ends with a line feed. The only error is want of memory.
+pub fn write_report(alloc: Global, report: &Report) -> Result<Bytes, Memory>
+    requires { IsLawful report.now }
+    ensures { IfOk result (λ bytes. bytes ≡ text report.now) }
+{
+    let mut out = Vec::new(alloc);
+    match put_report(&mut out, report) {
+        Ok(()) => Ok(Bytes::from_vec(out)),
+        Err(_) => Err(Memory),
+    }
+}
