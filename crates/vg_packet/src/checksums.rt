@@ -1,0 +1,89 @@
+//! The checksum of an IPv4 header (RFC 791, section 3.1; RFC 1071), and its update (RFC 1624).
+ghost use Rattle.std.specs.Prelude.{◌≡◌, ◌≢◌, ◌+◌, ◌-◌, ◌≤◌, ◌%◌, length, slice_index, slice_set, IsTrue};
+ghost use Rattle.vg_model.specs.Header.{header_sum, verifies, checksum as checksum_of, folded as folded_sum, lowered};
+ghost use Rattle.vg_packet.specs.Update.{updated};
+
+use crate::fields::u16_at;
+use byteorder::{BigEndian, ByteOrder};
+
+/// Where the time to live stands in a header. The protocol is the other byte of its word.
+const TIME_TO_LIVE: usize = 8;
+
+/// Where the checksum stands in a header.
+const CHECKSUM: usize = 10;
+
+/// Whether a header's checksum is right: whether the ones' complement sum of its 16-bit words, the
+/// checksum among them, has all bits set (RFC 1071, section 1). `header` is the whole IPv4 header, with
+/// its options: an even number of bytes, 20 to 60.
+pub fn verify_header(header: &[u8]) -> bool
+    requires even { length header.now % 2 ≡ 0 }
+    requires least { 20 ≤ length header.now }
+    requires most { length header.now ≤ 60 }
+    ensures { result ≡ verifies header.now }
+{
+    ones_complement_sum(header) == 0xffff
+}
+
+/// Lowers a header's time to live by one, and writes the checksum that the changed header has (RFC
+/// 1812, section 5.3.1). `header` is as [`verify_header`] takes it, and verifies; its first byte isn't
+/// 0, and its time to live is at least 1. The checksum comes from the old one and the word that changes
+/// (RFC 1624, equation 3), so that no word but these two is read.
+pub fn lower_ttl(header: &mut [u8])
+    requires even { length header.old % 2 ≡ 0 }
+    requires least { 20 ≤ length header.old }
+    requires most { length header.old ≤ 60 }
+    requires verified { IsTrue (verifies header.old) }
+    requires versioned { slice_index header.old 0 ≢ 0 }
+    requires alive { 1 ≤ slice_index header.old 8 }
+    ensures { header.new ≡ lowered header.old }
+{
+    let checksum = lowered_checksum(header);
+    header[TIME_TO_LIVE] -= 1;
+    BigEndian::write_u16(&mut header[CHECKSUM..], checksum);
+}
+
+/// The checksum that a header has once its time to live is lowered by one.
+fn lowered_checksum(header: &[u8]) -> u16
+    requires least { 20 ≤ length header.now }
+    requires verified { IsTrue (verifies header.now) }
+    requires versioned { slice_index header.now 0 ≢ 0 }
+    requires alive { 1 ≤ slice_index header.now 8 }
+    ensures { result ≡ checksum_of (slice_set header.now 8 (slice_index header.now 8 - 1)) }
+{
+    let word = u16_at(header, TIME_TO_LIVE);
+    updated_checksum(u16_at(header, CHECKSUM), word, word - 0x0100)
+}
+
+/// The checksum after one 16-bit word has changed, from the checksum before, the word before and the
+/// word after (RFC 1624, equation 3).
+fn updated_checksum(checksum: u16, before: u16, after: u16) -> u16
+    ensures { result ≡ updated checksum before after }
+{
+    !folded(u32::from(!checksum) + u32::from(!before) + u32::from(after))
+}
+
+/// The ones' complement sum of the 16-bit words (RFC 1071, section 1). The words are added up in more
+/// bits than they have, and the carries added back in at the end.
+fn ones_complement_sum(bytes: &[u8]) -> u16
+    requires even { length bytes.now % 2 ≡ 0 }
+    requires most { length bytes.now ≤ 60 }
+    ensures { result ≡ header_sum bytes.now }
+{
+    let mut sum = 0u32;
+    for word in bytes.chunks_exact(2) {
+        sum += u32::from(BigEndian::read_u16(word));
+    }
+    folded(sum)
+}
+
+/// A sum of 16-bit words with its carries added to its lower 16 bits, twice: the first time can carry
+/// once more.
+fn folded(sum: u32) -> u16
+    ensures { result ≡ folded_sum sum }
+{
+    let once = (sum & 0xffff) + (sum >> 16);
+    ((once & 0xffff) + (once >> 16)) as u16
+}
+
+#[cfg(test)]
+mod tests;

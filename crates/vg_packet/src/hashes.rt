@@ -1,0 +1,55 @@
+//! The hash of a flow, by which packets are handed to workers.
+ghost use Rattle.std.specs.Prelude.{◌≡◌};
+ghost use Rattle.vg_model.specs.Hash.{flow_hash as hash_of_flow, mixed as mixed_key, hash_key};
+
+use crate::fields::{u16_at, u32_at};
+use vg_model::HashKind;
+
+/// The EtherType of IPv4.
+const ETHERTYPE_IPV4: u16 = 0x0800;
+
+/// Where a frame's EtherType stands.
+const ETHERTYPE: usize = 12;
+
+/// Where the source address of a frame's IPv4 header stands.
+const SOURCE: usize = 26;
+
+/// Where the destination address of a frame's IPv4 header stands.
+const DESTINATION: usize = 30;
+
+/// The length of a frame that ends behind the destination address.
+const ADDRESSES_END: usize = 34;
+
+/// The hash of an Ethernet frame: that of the source and destination address, or of one of them, as
+/// `kind` says. A frame of another type, or with fewer than 34 bytes, has the hash 0. With
+/// [`HashKind::Flow`] a flow and its answers have one hash.
+pub fn flow_hash(kind: HashKind, frame: &[u8]) -> u32
+    ensures { result ≡ hash_of_flow kind frame.now }
+{
+    if frame.len() < ADDRESSES_END || u16_at(frame, ETHERTYPE) != ETHERTYPE_IPV4 {
+        return 0;
+    }
+    mixed(key_of(kind, u32_at(frame, SOURCE), u32_at(frame, DESTINATION)))
+}
+
+/// What is hashed of the addresses.
+fn key_of(kind: HashKind, source: u32, destination: u32) -> u32
+    ensures { result ≡ hash_key kind source destination }
+{
+    match kind {
+        HashKind::Flow => source ^ destination,
+        HashKind::Src => source,
+        HashKind::Dst => destination,
+    }
+}
+
+/// The key's upper bits mixed into its lower ones.
+fn mixed(key: u32) -> u32
+    ensures { result ≡ mixed_key key }
+{
+    let half = key ^ (key >> 16);
+    half ^ (half >> 8)
+}
+
+#[cfg(test)]
+mod tests;

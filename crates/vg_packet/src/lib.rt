@@ -1,0 +1,11 @@
+//! What the packet path computes on bytes: the checksum of an IPv4 header (RFC 791, RFC 1071), its
+//! update as the time to live falls (RFC 1624), and the hash that chooses a worker. No call allocates.
+#![tactic(auto)]
+
+mod checksums;
+mod fields;
+mod hashes;
+pub mod laws;
+
+pub use checksums::{lower_ttl, verify_header};
+pub use hashes::flow_hash;
