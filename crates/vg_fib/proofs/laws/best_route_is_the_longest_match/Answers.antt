@@ -1,0 +1,5 @@
+use Rattle.vg_fib.proofs.BestLemmas as lemmas
+use Rattle.vg_fib.proofs.laws.best_route_is_the_longest_match.Goals as goal
+
+pub returns : goal.returns
+returns c = record { found = lemmas.longest_match_is_best; none = lemmas.no_match_is_none }

@@ -1,0 +1,5 @@
+use Rattle.vg_fib.proofs.TableLemmas.{empty_table}
+use Rattle.vg_fib.proofs.table.Fib.new.Goals as goal
+
+pub invariant_of-result : goal.invariant_of-result
+invariant_of-result c = rw c.new.ensures.items empty_table

@@ -1,0 +1,134 @@
+//! Tests of the table of routes.
+
+use crate::{Fib, FibError, MOST_ROUTES, NoSuchRoute, laws};
+use std::alloc::Global;
+use std::process::Abort;
+use std::test::Fail;
+use vg_model::{Prefix, RouteTo};
+
+// 0.0.0.0/0, 10.0.0.0/8 and 10.1.0.0/16.
+const EVERYWHERE: Prefix = Prefix { addr: 0, len: 0 };
+
+const TEN: Prefix = Prefix {
+    addr: 0x0a00_0000,
+    len: 8,
+};
+
+const TEN_ONE: Prefix = Prefix {
+    addr: 0x0a01_0000,
+    len: 16,
+};
+
+// The prefix that covers one address alone.
+fn host(address: u32) -> Prefix {
+    Prefix {
+        addr: address,
+        len: 32,
+    }
+}
+
+// Sets these routes in this order, and looks up three addresses in the table and in its copy.
+fn find_in_order(rt: &impl Abort, alloc: Global, order: &[(Prefix, RouteTo)]) -> Result<(), Fail> {
+    let mut fib = Fib::new(alloc)?;
+    for (prefix, to) in order {
+        fib.set(*prefix, *to)?;
+    }
+    assert_eq!(rt; fib.routes(), order);
+    find_longest(rt, &fib);
+    let copy = fib.copy()?;
+    assert_eq!(rt; copy.routes(), order);
+    find_longest(rt, &copy);
+    Ok(())
+}
+
+fn find_longest(rt: &impl Abort, fib: &Fib) {
+    assert_eq!(rt; fib.find(0x0a01_0203), Some(RouteTo::Via(16)));
+    assert_eq!(rt; fib.find(0x0a02_0001), Some(RouteTo::Via(8)));
+    assert_eq!(rt; fib.find(0xc000_0201), Some(RouteTo::Via(0)));
+}
+
+#[test]
+fn the_longest_prefix_wins_in_any_order(rt: HostRuntime) -> Result<(), Fail> {
+    let alloc = rt.alloc();
+    let everywhere = (EVERYWHERE, RouteTo::Via(0));
+    let ten = (TEN, RouteTo::Via(8));
+    let ten_one = (TEN_ONE, RouteTo::Via(16));
+    find_in_order(&rt, alloc, &[everywhere, ten, ten_one])?;
+    find_in_order(&rt, alloc, &[everywhere, ten_one, ten])?;
+    find_in_order(&rt, alloc, &[ten, everywhere, ten_one])?;
+    find_in_order(&rt, alloc, &[ten, ten_one, everywhere])?;
+    find_in_order(&rt, alloc, &[ten_one, everywhere, ten])?;
+    find_in_order(&rt, alloc, &[ten_one, ten, everywhere])?;
+    Ok(())
+}
+
+#[test]
+fn a_prefix_covers_from_its_first_address_to_its_last(rt: HostRuntime) -> Result<(), Fail> {
+    let mut fib = Fib::new(rt.alloc())?;
+    assert_eq!(rt; fib.find(0x0a01_0000), None);
+    fib.set(TEN_ONE, RouteTo::Local)?;
+    assert_eq!(rt; fib.find(0x0a00_ffff), None);
+    assert_eq!(rt; fib.find(0x0a01_0000), Some(RouteTo::Local));
+    assert_eq!(rt; fib.find(0x0a01_ffff), Some(RouteTo::Local));
+    assert_eq!(rt; fib.find(0x0a02_0000), None);
+
+    fib.set(host(0xffff_ffff), RouteTo::Via(1))?;
+    assert_eq!(rt; fib.find(0xffff_fffe), None);
+    assert_eq!(rt; fib.find(0xffff_ffff), Some(RouteTo::Via(1)));
+
+    fib.set(EVERYWHERE, RouteTo::Drop)?;
+    assert_eq!(rt; fib.find(0), Some(RouteTo::Drop));
+    assert_eq!(rt; fib.find(0x0a02_0000), Some(RouteTo::Drop));
+    assert_eq!(rt; fib.find(0xffff_ffff), Some(RouteTo::Via(1)));
+    Ok(())
+}
+
+#[test]
+fn a_prefix_has_one_route_until_it_is_removed(rt: HostRuntime) -> Result<(), Fail> {
+    let mut fib = Fib::new(rt.alloc())?;
+    assert_eq!(rt; fib.remove(TEN), Err(NoSuchRoute));
+    fib.set(TEN, RouteTo::Via(1))?;
+    fib.set(TEN_ONE, RouteTo::Via(2))?;
+    fib.set(TEN, RouteTo::Via(3))?;
+    assert_eq!(rt;
+        fib.routes(),
+        [(TEN, RouteTo::Via(3)), (TEN_ONE, RouteTo::Via(2))].as_slice()
+    );
+    assert_eq!(rt; fib.find(0x0a01_0203), Some(RouteTo::Via(2)));
+
+    assert_eq!(rt; fib.remove(TEN_ONE), Ok(()));
+    assert_eq!(rt; fib.remove(TEN_ONE), Err(NoSuchRoute));
+    assert_eq!(rt; fib.find(0x0a01_0203), Some(RouteTo::Via(3)));
+    assert_eq!(rt; fib.remove(TEN), Ok(()));
+    assert_eq!(rt; fib.find(0x0a01_0203), None);
+    assert!(rt; fib.routes().is_empty());
+    Ok(())
+}
+
+#[test]
+fn a_full_table_takes_known_prefixes_alone(rt: HostRuntime) -> Result<(), Fail> {
+    let mut fib = Fib::new(rt.alloc())?;
+    for address in 0..4096 {
+        fib.set(host(address), RouteTo::Local)?;
+    }
+    assert_eq!(rt; fib.routes().len(), MOST_ROUTES);
+    assert_eq!(rt; fib.set(host(4096), RouteTo::Local), Err(FibError::TooMany));
+    assert_eq!(rt; fib.routes().len(), MOST_ROUTES);
+    assert_eq!(rt; fib.find(4096), None);
+    fib.set(host(4095), RouteTo::Drop)?;
+    assert_eq!(rt; fib.find(4095), Some(RouteTo::Drop));
+    fib.remove(host(0))?;
+    fib.set(host(4096), RouteTo::Via(7))?;
+    assert_eq!(rt; fib.find(4096), Some(RouteTo::Via(7)));
+    Ok(())
+}
+
+#[test]
+fn the_laws_are_called() {
+    laws::covering_prefix_is_unique();
+    laws::best_route_is_the_longest_match();
+    laws::order_is_free();
+    laws::set_route_is_found();
+    laws::set_changes_only_covered();
+    laws::remove_changes_only_covered();
+}
