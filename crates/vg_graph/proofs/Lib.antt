@@ -1,0 +1,4 @@
+pub mod ListLemmas
+pub mod ViewLemmas
+pub mod SearchLemmas
+pub mod KeptLemmas

@@ -1,0 +1,4 @@
+pub mod View
+pub mod Refusals
+pub mod Reach
+pub mod NewArc

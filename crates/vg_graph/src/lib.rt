@@ -1,0 +1,16 @@
+//! The graph of nodes, interfaces and adjacencies that packets go through.
+#![tactic(auto)]
+
+mod addresses;
+pub mod errors;
+pub mod graphs;
+mod lists;
+mod nodes;
+mod search;
+mod start;
+
+pub use errors::GraphError;
+pub use graphs::{Graph, MOST_ADJACENCIES, MOST_INTERFACES, MOST_NODES};
+
+#[cfg(test)]
+mod tests;
