@@ -1,0 +1,9 @@
+pub mod Command
+pub mod WireScript
+pub mod Output
+pub mod Run
+pub mod Stops
+pub mod Walk
+pub mod Dues
+pub mod WireReport
+pub mod Expected

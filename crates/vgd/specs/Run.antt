@@ -1,0 +1,164 @@
+-- What a run of the program answers and what it leaves behind.
+use Rattle.std.specs.Prelude.{◌≡◌, ◌≢◌, ◌⊎◌, ℕ, ◌<◌, ◌+◌, ◌++◌, List, [], ◌∷◌, length, take, codes, decimal, Option, Some, None, option_map, IfSome, IsSome, Ok, Err}
+use Rattle.std.specs.Borrow.{Bor}
+use Rattle.vg_model.specs.declared.edits.EditLine.{EditLine}
+use Rattle.vg_model.specs.Graph.{Graph}
+use Rattle.vg_model.specs.Generations.{generations}
+use Rattle.vg_model.specs.Visit.{ip4_visit}
+use Rattle.vg_outside.specs.Files.{Files, file, Rose, FirstBytes, FailedLoad, HoldsBytes, SameElsewhere}
+use Rattle.vg_capture.specs.declared.captures.Capture.{Capture}
+use Rattle.vg_capture.specs.declared.errors.CaptureError.{CaptureError}
+use Rattle.vg_capture.specs.declared.errors.CaptureError.TheVariants as faults
+use Rattle.vg_capture.specs.Savefile.{capture_of, largest_file}
+use Rattle.vg_report.specs.declared.reports.Report.{Report}
+use Rattle.vg_report.specs.Text.{text}
+use Rattle.vgd.specs.declared.refusals.Refusal.{Refusal}
+use Rattle.vgd.specs.declared.refusals.Refusal.TheVariants as refusals
+use Rattle.vgd.specs.Command.{Run, command, texts}
+use Rattle.vgd.specs.WireScript.{edits_of, largest_script}
+use Rattle.vgd.specs.Output.{IsOutput}
+
+-- a call: its words, and of the folder, before and after, its files where it tells them and how often calls on a name have failed
+pub record Call : Type 0 where
+  pub words : List (List ℕ)
+  pub files : Option Files
+  pub files_after : Option Files
+  pub faults : List ℕ → ℕ
+  pub faults_after : List ℕ → ℕ
+
+-- the words ask for this run, and these are what its capture and its script held, where the folder tells its files
+pub record AreLoaded (call : Call) (run : Run) (capture_bytes script_bytes : List ℕ) : Type 0 where
+  pub is_command : command call.words ≡ Some run
+  pub capture_file : IfSome call.files (λ files. file files run.capture ≡ Some capture_bytes)
+  pub script_file : IfSome call.files (λ files. file files run.script ≡ Some script_bytes)
+
+-- the capture and the script were loaded and accepted: this capture, and the edits of this script
+pub record AreAccepted (call : Call) (run : Run) (capture : Capture) (edits : List EditLine) : Type 0 where
+  pub capture_bytes : List ℕ
+  pub script_bytes : List ℕ
+  pub loaded : AreLoaded call run capture_bytes script_bytes
+  pub is_capture : capture_of capture_bytes ≡ Ok capture
+  pub is_script : edits_of script_bytes ≡ Some edits
+
+-- a run is done: the folder holds the savefile of the run, all its other files are as before, and this is the text of its report
+pub record IsDone (call : Call) (line : List ℕ) : Type 0 where
+  pub run : Run
+  pub capture : Capture
+  pub edits : List EditLine
+  pub graphs : List Graph
+  pub report : Report
+  pub tx : List ℕ
+  pub accepted : AreAccepted call run capture edits
+  pub are_graphs : generations edits [] ≡ Ok graphs
+  pub output : IsOutput ip4_visit graphs (λ i. 0) run capture report tx
+  pub printed : line ≡ text report
+  pub saved : HoldsBytes call.files_after run.tx tx
+  pub others : SameElsewhere call.files call.files_after run.tx
+
+-- the file is the capture, or it is the script and the capture was there
+abbrev pub IsLoadedNext : Option Files → (capture script : List ℕ) → List ℕ → Type 0
+IsLoadedNext files capture script name = (name ≡ capture) ⊎ ((name ≡ script) × IfSome files (λ fs. IsSome (file fs capture)))
+
+-- a file that the words name couldn't be loaded: the capture comes first
+pub record IsLoadFault (call : Call) (name : List ℕ) : Type 0 where
+  pub run : Run
+  pub is_command : command call.words ≡ Some run
+  pub named : IsLoadedNext call.files run.capture run.script name
+  pub fault : FailedLoad call.files name (call.faults name) (call.faults_after name)
+
+-- the capture is no savefile: this is its first check that fails
+pub record IsCaptureFault (call : Call) (fault : CaptureError) : Type 0 where
+  pub run : Run
+  pub capture_bytes : List ℕ
+  pub script_bytes : List ℕ
+  pub loaded : AreLoaded call run capture_bytes script_bytes
+  pub is_fault : capture_of capture_bytes ≡ Err fault
+  pub no_memory : fault ≢ faults.Memory
+
+-- the capture is accepted, and the script is not
+pub record IsScriptFault (call : Call) : Type 0 where
+  pub run : Run
+  pub capture : Capture
+  pub capture_bytes : List ℕ
+  pub script_bytes : List ℕ
+  pub loaded : AreLoaded call run capture_bytes script_bytes
+  pub is_capture : capture_of capture_bytes ≡ Ok capture
+  pub is_fault : edits_of script_bytes ≡ None
+
+-- all was accepted, and the savefile couldn't be saved; the folder's other files are as before
+pub record IsSaveFault (call : Call) (name : List ℕ) : Type 0 where
+  pub run : Run
+  pub capture : Capture
+  pub edits : List EditLine
+  pub accepted : AreAccepted call run capture edits
+  pub named : name ≡ run.tx
+  pub fault : Rose (call.faults name) (call.faults_after name)
+  pub others : SameElsewhere call.files call.files_after name
+
+-- why a run is refused, and what it leaves of the folder
+abbrev pub IsRefused : Call → Refusal → Type 0
+IsRefused call refusals.Usage = (command call.words ≡ None) × (call.files_after ≡ call.files)
+IsRefused call (refusals.Load name) = IsLoadFault call name.now × (call.files_after ≡ call.files)
+IsRefused call (refusals.Capture fault) = IsCaptureFault call fault × (call.files_after ≡ call.files)
+IsRefused call refusals.Script = IsScriptFault call × (call.files_after ≡ call.files)
+IsRefused call (refusals.Save name) = IsSaveFault call name.now
+
+-- the status of a refusal
+abbrev pub status_of : Refusal → ℕ
+status_of refusals.Usage = 2
+status_of (refusals.Load name) = 3
+status_of (refusals.Capture fault) = 4
+status_of refusals.Script = 5
+status_of (refusals.Save name) = 6
+
+-- the words for a capture's fault: its cause and its place
+abbrev pub capture_fault : CaptureError → List ℕ
+capture_fault faults.TooLarge = codes "too-large 16777216"
+capture_fault faults.NotPcap = codes "not-pcap 0"
+capture_fault (faults.Version major minor) = codes "version 4"
+capture_fault (faults.LinkType link) = codes "link-type 20"
+capture_fault (faults.Truncated offset) = codes "truncated " ++ decimal offset
+capture_fault (faults.RecordTooLong offset) = codes "record-too-long " ++ decimal offset
+capture_fault (faults.TooManyPackets offset) = codes "too-many-packets " ++ decimal offset
+capture_fault faults.Memory = codes "memory 0"
+
+-- the line that is printed for a refusal, without its line feed
+abbrev pub words_of : Refusal → List ℕ
+words_of refusals.Usage = codes "usage"
+words_of (refusals.Load name) = codes "load " ++ name.now
+words_of (refusals.Capture fault) = codes "capture " ++ capture_fault fault
+words_of refusals.Script = codes "script 1 not-built"
+words_of (refusals.Save name) = codes "save " ++ name.now
+
+-- the line with its line feed
+abbrev pub line_of : Refusal → List ℕ
+line_of refusal = words_of refusal ++ 10 ∷ []
+
+-- the status that is due, but for want of memory and for faults of printing, and the text to print with it
+abbrev pub IsDue : Call → ℕ → List ℕ → Type 0
+IsDue call status line =
+    ((status ≡ 0) × IsDone call line)
+    ⊎ ((refusal : Refusal) × (status ≡ status_of refusal) × (line ≡ line_of refusal) × IsRefused call refusal)
+
+-- where the sink tells its bytes, these were added
+abbrev pub Appends : Option (List ℕ) → Option (List ℕ) → List ℕ → Type 0
+Appends before after bytes = after ≡ option_map (λ all. all ++ bytes) before
+
+-- where the sink tells its bytes, a front of these was added that is not all of them
+abbrev pub AppendsFront : Option (List ℕ) → Option (List ℕ) → List ℕ → Type 0
+AppendsFront before after bytes = (n : ℕ) × (n < length bytes) × Appends before after (take n bytes)
+
+-- what a folder gave for a run's two files, each up to its greatest length and one byte more
+pub record AreFirstBytes (files : Option Files) (capture_name script_name capture_bytes script_bytes : List ℕ) : Type 0 where
+  pub capture : FirstBytes files capture_name (largest_file + 1) capture_bytes
+  pub script : FirstBytes files script_name (largest_script + 1) script_bytes
+
+-- a call, by what its contract sees of it
+abbrev pub called : List (Bor (List ℕ)) → (files files_after : Option Files) → (faults faults_after : List ℕ → ℕ) → Call
+called words files files_after faults faults_after = record {
+  words = texts words;
+  files = files;
+  files_after = files_after;
+  faults = faults;
+  faults_after = faults_after;
+}

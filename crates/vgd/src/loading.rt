@@ -1,0 +1,51 @@
+//! The files that a run reads.
+ghost use Rattle.std.specs.Prelude.{◌≡◌, ℕ, List, ◌+◌, ◌≤◌, IfOk, IfErr};
+ghost use Rattle.vg_outside.specs.Files.{FirstBytes, FailedLoad};
+ghost use Rattle.vgd.specs.Run.{AreFirstBytes, IsLoadedNext};
+ghost use Rattle.vgd.specs.Stops.{OnRefusal, IsLoadOf};
+
+use crate::refusals::{Refusal, Stop};
+use crate::words::Run;
+use vg_model::Bytes;
+use vg_outside::{Folder, LoadError};
+
+/// The greatest length of a capture, in bytes.
+pub const LARGEST_CAPTURE: usize = 16_777_216;
+
+/// The greatest length of a script, in bytes.
+pub const LARGEST_SCRIPT: usize = 262_144;
+
+/// What a run reads: of each file at most one byte more than its greatest length.
+#[derive(Drop)]
+pub struct Files {
+    pub capture: Bytes,
+    pub script: Bytes,
+}
+
+/// Loads a file of at most so many bytes, or one byte more of it where it is longer.
+fn load_file<'a, F: Folder>(folder: &mut F, name: &'a str, limit: usize) -> Result<Bytes, Stop<'a>>
+    ensures bytes { IfOk result (FirstBytes (F.contents folder.old) name.now (limit + 1)) }
+    ensures same { F.contents folder.new ≡ F.contents folder.old }
+    ensures later { (other : List ℕ) → F.faults folder.old other ≤ F.faults folder.new other }
+    ensures stop { IfErr result (OnRefusal (IsLoadOf (λ failed. (failed ≡ name.now)
+        × FailedLoad (F.contents folder.old) name.now (F.faults folder.old name.now) (F.faults folder.new name.now)))) }
+{
+    match folder.load(name, limit) {
+        Ok(bytes) => Ok(bytes),
+        Err(LoadError::Failed) => Err(Stop::Refused(Refusal::Load(name))),
+        Err(LoadError::Memory) => Err(Stop::Memory),
+    }
+}
+
+/// Loads a run's capture and then its script.
+pub fn load_files<'a, F: Folder>(folder: &mut F, run: &Run<'a>) -> Result<Files, Stop<'a>>
+    ensures files { IfOk result (λ files. AreFirstBytes (F.contents folder.old) run.now.capture.now run.now.script.now files.capture files.script) }
+    ensures same { F.contents folder.new ≡ F.contents folder.old }
+    ensures later { (other : List ℕ) → F.faults folder.old other ≤ F.faults folder.new other }
+    ensures stop { IfErr result (OnRefusal (IsLoadOf (λ failed. IsLoadedNext (F.contents folder.old) run.now.capture.now run.now.script.now failed
+        × FailedLoad (F.contents folder.old) failed (F.faults folder.old failed) (F.faults folder.new failed)))) }
+{
+    let capture = load_file(folder, run.capture, LARGEST_CAPTURE)?;
+    let script = load_file(folder, run.script, LARGEST_SCRIPT)?;
+    Ok(Files { capture, script })
+}
