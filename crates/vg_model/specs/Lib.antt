@@ -4,6 +4,7 @@ pub mod Header
 pub mod Hash
 pub mod Route
 pub mod Packet
+pub mod PoolBook
 pub mod Errors
 pub mod Graph
 pub mod Visit
