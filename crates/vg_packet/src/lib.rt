@@ -1,5 +1,6 @@
-//! What the packet path computes on bytes: the checksum of an IPv4 header (RFC 791, RFC 1071), its
-//! update as the time to live falls (RFC 1624), and the hash that chooses a worker. No call allocates.
+//! What the packet path computes on bytes: number fields, the checksum of an IPv4 header (RFC 791,
+//! RFC 1071), its update as the time to live falls (RFC 1624), and the hash that chooses a worker. No
+//! call allocates.
 #![tactic(auto)]
 
 mod checksums;
@@ -8,4 +9,5 @@ mod hashes;
 pub mod laws;
 
 pub use checksums::{lower_ttl, verify_header};
+pub use fields::{u16_at, u32_at};
 pub use hashes::flow_hash;
