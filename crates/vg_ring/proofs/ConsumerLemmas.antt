@@ -1,5 +1,5 @@
 -- The consumer's two steps keep the rule of the ring, and so does the load at the close.
-use Rattle.std.proofs.Common.{◌≡◌, ◌≢◌, ℕ, ◌+◌, ◌%◌, ◌<◌, ◌≤◌, true, List, [], ◌∷◌, ◌++◌, length, get_or, drop, set, sym, refl, ap, ◌∙◌, subst, arith, Option, Some, None, le_refl, mod-lt, length-set, length-append, get_or-set_other, get_or-set_same}
+use Rattle.std.proofs.Common.{◌≡◌, ◌≢◌, ℕ, ◌+◌, ◌%◌, ◌<◌, true, List, [], ◌∷◌, ◌++◌, length, get_or, drop, set, sym, refl, ap, ◌∙◌, subst, arith, Option, Some, None, le_refl, mod-lt, length-set, length-append, get_or-set_other, get_or-set_same}
 use mathlib.Core.Logic.{dite}
 use mathlib.Core.Option.{none, some}
 use mathlib.Core.Option as maybe
@@ -7,19 +7,19 @@ use native.Mathlib.Nat.{add-mod_right}
 use native.Mathlib.Decide.{ℕ_discrete, dec_lt}
 use lib.ListN.{get_elem?}
 use lib.Seq.{set-get_or}
-use Rattle.atomic_table.specs.Table.{State, step, rest, keeps, takes, gives, stepped, Allows}
+use Rattle.atomic_table.specs.Table.{step, rest, keeps, takes, gives, stepped, Allows}
 use Rattle.atomic_table.proofs.Lists.{set_here, set_else}
 use Rattle.vg_ring.specs.declared.seats.View.{View}
-use Rattle.vg_ring.specs.declared.seats.TheConstants.{HEAD, TAIL, WORDS}
+use Rattle.vg_ring.specs.declared.seats.TheConstants.{HEAD, TAIL}
 use Rattle.vg_ring.specs.Rule.{Knows}
-use Rattle.vg_ring.specs.Steps.{Sat, saw_empty, got_item, LoadsTail, took_one, StoresHead, LoadsBoth}
+use Rattle.vg_ring.specs.Steps.{SeatState, saw_empty, got_item, LoadsTail, took_one, StoresHead, LoadsBoth}
 use Rattle.vg_ring.proofs.LeftLemmas.{more_taken}
 use Rattle.vg_ring.proofs.ListLemmas.{there, inside, after_set}
 use Rattle.vg_ring.proofs.RuleLemmas.{Ring, apart, stays}
 
 module _ (T : Type 0) where
   -- the consumer loads the tail
-  pub loads_tail : (slots id : ℕ) (me : Sat T) → me.0.receives ≡ true → me.0.emptying ≡ None → me.1 ≡ []
+  pub loads_tail : (slots id : ℕ) (me : SeatState T) → me.0.receives ≡ true → me.0.emptying ≡ None → me.1 ≡ []
       → Allows (Ring T) slots id me TAIL (λ n. n) (LoadsTail (step slots TAIL 0 0 none) me)
   loads_tail slots id me receives idle bare s r deep at _ = let v : View T = me.0 in let x : ℕ = get_or s.words TAIL 0 in
       let know = r.seats id v at in let mine = know.receiver receives in
@@ -77,7 +77,7 @@ module _ (T : Type 0) where
       ))
 
   -- the consumer stores the head, and gives the slot empty
-  pub stores_head : (slots id n i : ℕ) (me : Sat T) (x : T) → me.0.receives ≡ true → me.0.emptying ≡ Some x → n ≡ length me.0.taken + 1 → i ≡ length me.0.taken % slots → me.1 ≡ (i, None) ∷ []
+  pub stores_head : (slots id n i : ℕ) (me : SeatState T) (x : T) → me.0.receives ≡ true → me.0.emptying ≡ Some x → n ≡ length me.0.taken + 1 → i ≡ length me.0.taken % slots → me.1 ≡ (i, None) ∷ []
       → Allows (Ring T) slots id me HEAD (λ _. n) (λ _. StoresHead (step slots HEAD n 0 none) me n)
   stores_head slots id new i me x receives emptying more lies has s r deep at _ = let v : View T = me.0 in
       let know = r.seats id v at in let mine = know.receiver receives in
@@ -124,7 +124,7 @@ module _ (T : Type 0) where
       )
 
   -- the seat of both ends loads the tail
-  pub loads_both : (slots id : ℕ) (me : Sat T) → me.0.sends ≡ true → me.0.receives ≡ true → me.1 ≡ []
+  pub loads_both : (slots id : ℕ) (me : SeatState T) → me.0.sends ≡ true → me.0.receives ≡ true → me.1 ≡ []
       → Allows (Ring T) slots id me TAIL (λ n. n) (LoadsBoth (step slots TAIL 0 0 none) me)
   loads_both slots id me sends receives bare s r deep at _ = let v : View T = me.0 in let x : ℕ = get_or s.words TAIL 0 in
       let know = r.seats id v at in let out = know.sender sends in let mine = know.receiver receives in let w : View T = saw_empty v x in let is = r.tail in (

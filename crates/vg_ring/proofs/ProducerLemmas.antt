@@ -1,23 +1,23 @@
 -- The producer's two steps keep the rule of the ring.
-use Rattle.std.proofs.Common.{◌≡◌, ◌≢◌, ℕ, ◌+◌, ◌%◌, ◌<◌, ◌≤◌, true, false, List, [], ◌∷◌, ◌++◌, length, get_or, drop, set, sym, refl, ap, ◌∙◌, subst, ⊎_elim, arith, Option, Some, None, le_refl, mod-lt, append_assoc, length-set, length-append, get_or-set_other, get_or-set_same}
+use Rattle.std.proofs.Common.{◌≡◌, ◌≢◌, ℕ, ◌+◌, ◌%◌, ◌<◌, true, false, List, [], ◌∷◌, ◌++◌, length, get_or, drop, set, sym, refl, ap, ◌∙◌, subst, ⊎_elim, arith, Option, Some, None, le_refl, mod-lt, append_assoc, length-set, length-append, get_or-set_other, get_or-set_same}
 use mathlib.Core.Logic.{dite}
 use mathlib.Core.Option.{none, some}
 use mathlib.Core.Option as maybe
 use native.Mathlib.Decide.{dec_lt}
 use lib.ListN.{get_elem?}
 use lib.Seq.{set-get_or, drop-append-le}
-use Rattle.atomic_table.specs.Table.{State, step, rest, keeps, takes, gives, stepped, Allows}
+use Rattle.atomic_table.specs.Table.{step, rest, keeps, takes, gives, stepped, Allows}
 use Rattle.atomic_table.proofs.Lists.{set_here, set_else, at_longer}
 use Rattle.vg_ring.specs.declared.seats.View.{View}
-use Rattle.vg_ring.specs.declared.seats.TheConstants.{HEAD, TAIL, WORDS}
+use Rattle.vg_ring.specs.declared.seats.TheConstants.{HEAD, TAIL}
 use Rattle.vg_ring.specs.Rule.{Knows}
-use Rattle.vg_ring.specs.Steps.{Sat, saw_full, got_slot, LoadsHead, put_one, StoresTail}
+use Rattle.vg_ring.specs.Steps.{SeatState, saw_full, got_slot, LoadsHead, put_one, StoresTail}
 use Rattle.vg_ring.proofs.ListLemmas.{at_end, inside, after_set}
 use Rattle.vg_ring.proofs.RuleLemmas.{Ring, apart, stays}
 
 module _ (T : Type 0) where
   -- the producer loads the head
-  pub loads_head : (slots id : ℕ) (me : Sat T) → me.0.sends ≡ true → me.0.filling ≡ false → me.1 ≡ []
+  pub loads_head : (slots id : ℕ) (me : SeatState T) → me.0.sends ≡ true → me.0.filling ≡ false → me.1 ≡ []
       → Allows (Ring T) slots id me HEAD (λ n. n) (LoadsHead (step slots HEAD 0 0 none) me)
   loads_head slots id me sends idle bare s r deep at _ = let v : View T = me.0 in let x : ℕ = get_or s.words HEAD 0 in
       let know = r.seats id v at in let mine = know.sender sends in
@@ -66,7 +66,7 @@ module _ (T : Type 0) where
       ))
 
   -- the producer stores the tail, and gives the slot with the item
-  pub stores_tail : (slots id n i : ℕ) (me : Sat T) (x : T) → me.0.sends ≡ true → me.0.filling ≡ true → n ≡ length me.0.put + 1 → i ≡ length me.0.put % slots → me.1 ≡ (i, Some x) ∷ []
+  pub stores_tail : (slots id n i : ℕ) (me : SeatState T) (x : T) → me.0.sends ≡ true → me.0.filling ≡ true → n ≡ length me.0.put + 1 → i ≡ length me.0.put % slots → me.1 ≡ (i, Some x) ∷ []
       → Allows (Ring T) slots id me TAIL (λ _. n) (λ _. StoresTail (step slots TAIL n 0 none) me n)
   stores_tail slots id new i me x sends filling more lies has s r deep at _ = let v : View T = me.0 in
       let know = r.seats id v at in let mine = know.sender sends in

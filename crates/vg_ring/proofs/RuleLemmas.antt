@@ -1,12 +1,12 @@
 -- The rule of the ring where nothing but views changes, and at the start.
-use Rattle.std.proofs.Common.{◌≡◌, ◌≢◌, ℕ, zero, suc, ◌+◌, ◌%◌, ◌<◌, ◌≤◌, Bool, true, false, List, [], ◌∷◌, map, replicate, length, get_or, set, sym, refl, ◌∙◌, subst, arith, Option, None, mod-lt}
+use Rattle.std.proofs.Common.{◌≡◌, ◌≢◌, ℕ, zero, suc, ◌+◌, ◌%◌, ◌<◌, ◌≤◌, false, List, [], ◌∷◌, map, replicate, get_or, set, sym, refl, ◌∙◌, subst, arith, Option, None, mod-lt}
 use mathlib.Core.Option.{some, some-injective, some-ne-none}
 use lib.ListN.{get_elem?, length-map, length-replicate}
 use lib.Seq.{set-get_or}
 use Rattle.atomic_table.specs.Table.{State, opening}
 use Rattle.atomic_table.proofs.Lists.{one_turn}
 use Rattle.vg_ring.specs.declared.seats.View.{View}
-use Rattle.vg_ring.specs.declared.seats.TheConstants.{HEAD, TAIL, WORDS}
+use Rattle.vg_ring.specs.declared.seats.TheConstants.{WORDS}
 use Rattle.vg_ring.specs.Rule.{Knows, IsRing, opening_view}
 use Rattle.vg_ring.proofs.ListLemmas.{after_set}
 

@@ -29,7 +29,7 @@ use Rattle.vg_ring.specs.declared.seats.View.{View}
 use Rattle.vg_ring.specs.declared.seats.TheConstants.{HEAD, TAIL, WORDS}
 
 module _ {T : Type 0} where
-  -- a state of the table is that of a ring: what was put and taken in all, who sits where, and what each seat knows
+  -- what a seat knows is true, at a moment at which these items were put and taken
   pub record Knows (put taken : List T) (filling : Bool) (emptying : Option T) (producer consumer seat : ℕ) (view : View T) : Type 0 where
     -- a seat that sends is the producer's, and one that receives the consumer's
     pub sender : view.sends ≡ true → (seat ≡ producer) × (view.put ≡ put) × (view.filling ≡ filling)
@@ -38,13 +38,16 @@ module _ {T : Type 0} where
     pub head : view.head ≤ length taken
     pub tail : view.tail ≤ length put
 
+  -- the state of the table keeps the rule
   pub record IsRing (s : State (Option T) (View T)) : Type 0 where
+    -- the items put and the items taken since the ring was made, oldest first
     pub put : List T
     pub taken : List T
     -- whether the producer holds a slot
     pub filling : Bool
     -- the item in the slot that the consumer holds
     pub emptying : Option T
+    -- the numbers of the two ends' seats
     pub producer : ℕ
     pub consumer : ℕ
     pub slots : ℕ
@@ -58,6 +61,7 @@ module _ {T : Type 0} where
     pub within : length put ≤ length taken + slots
     -- the items taken are the first of those put, in their order
     pub prefix : put ≡ taken ++ drop (length taken) put
+    -- what an end holds: the producer a slot beyond all items that wait, the consumer the oldest item
     pub room : filling ≡ true → length put < length taken + slots
     pub oldest : (item : T) → emptying ≡ Some item → get_elem? put (length taken) ≡ some item
     -- each item that waits is in its slot, but for the one whose slot the consumer holds

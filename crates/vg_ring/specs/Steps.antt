@@ -7,9 +7,9 @@ use Rattle.vg_ring.specs.declared.seats.View.{View}
 use Rattle.vg_ring.specs.declared.seats.TheConstants.{HEAD, TAIL}
 use Rattle.vg_ring.specs.Rule.{WasRead}
 
--- a seat: what its owner knows, and the slots that it holds
-abbrev pub Sat : Type 0 → Type 0
-Sat T = Me (Option T) (View T)
+-- what a seat's owner knows, and the slots that the seat holds
+abbrev pub SeatState : Type 0 → Type 0
+SeatState T = Me (Option T) (View T)
 
 module _ {T : Type 0} where
   -- the producer read a head that leaves no room
@@ -20,7 +20,7 @@ module _ {T : Type 0} where
   abbrev pub got_slot : View T → ℕ → View T
   got_slot v head = record v { filling = true; head = head; steps = v.steps + 1 }
 
-  abbrev pub LoadsHead : Step (Option T) → Sat T → ℕ → Sat T → Type 0
+  abbrev pub LoadsHead : Step (Option T) → SeatState T → ℕ → SeatState T → Type 0
   LoadsHead st before head after = let v = before.0 in (v.head ≤ head) × (head ≤ length v.put) × (length v.put ≤ head + st.slots)
       × (length v.put < head + st.slots → after ≡ (got_slot v head, (length v.put % st.slots, None) ∷ []))
       × (head + st.slots ≤ length v.put → after ≡ (saw_full v head, []))
@@ -30,7 +30,7 @@ module _ {T : Type 0} where
   abbrev pub put_one : View T → T → View T
   put_one v item = record v { put = v.put ++ item ∷ []; filling = false; steps = v.steps + 1 }
 
-  abbrev pub StoresTail : Step (Option T) → Sat T → ℕ → Sat T → Type 0
+  abbrev pub StoresTail : Step (Option T) → SeatState T → ℕ → SeatState T → Type 0
   StoresTail st before tail after = (slot : ℕ) (item : T) → before.1 ≡ (slot, Some item) ∷ [] → after ≡ (put_one before.0 item, [])
 
   -- the consumer read a tail that shows no item
@@ -41,11 +41,14 @@ module _ {T : Type 0} where
   abbrev pub got_item : View T → ℕ → T → View T
   got_item v tail item = record v { emptying = Some item; tail = tail; steps = v.steps + 1 }
 
-  -- a seat that sends too knows which item that is, and when there is none
-  abbrev pub LoadsTail : Step (Option T) → Sat T → ℕ → Sat T → Type 0
+  -- of the oldest item a seat that sends too knows which one it is
+  abbrev pub GetsOldest : View T → ℕ → ℕ → SeatState T → Type 0
+  GetsOldest v slots tail after = (item : T) × (after ≡ (got_item v tail item, (length v.taken % slots, Some item) ∷ []))
+      × (v.sends ≡ true → get_elem? v.put (length v.taken) ≡ some item)
+
+  abbrev pub LoadsTail : Step (Option T) → SeatState T → ℕ → SeatState T → Type 0
   LoadsTail st before tail after = let v = before.0 in (v.tail ≤ tail) × (length v.taken ≤ tail)
-      × (length v.taken < tail → (item : T) × (after ≡ (got_item v tail item, (length v.taken % st.slots, Some item) ∷ []))
-      × (v.sends ≡ true → get_elem? v.put (length v.taken) ≡ some item))
+      × (length v.taken < tail → GetsOldest v st.slots tail after)
       × (tail ≤ length v.taken → after ≡ (saw_empty v tail, []))
       × (v.sends ≡ true → (tail ≡ length v.put) × (v.put ≡ v.taken ++ drop (length v.taken) v.put))
       × WasRead v st.slots TAIL tail
@@ -54,11 +57,11 @@ module _ {T : Type 0} where
   abbrev pub took_one : View T → T → View T
   took_one v item = record v { taken = v.taken ++ item ∷ []; emptying = None; steps = v.steps + 1 }
 
-  abbrev pub StoresHead : Step (Option T) → Sat T → ℕ → Sat T → Type 0
+  abbrev pub StoresHead : Step (Option T) → SeatState T → ℕ → SeatState T → Type 0
   StoresHead st before head after = (item : T) → before.0.emptying ≡ Some item → after ≡ (took_one before.0 item, [])
 
   -- the seat of both ends read the tail, and learnt that what was taken is the first of what was put
-  abbrev pub LoadsBoth : Step (Option T) → Sat T → ℕ → Sat T → Type 0
+  abbrev pub LoadsBoth : Step (Option T) → SeatState T → ℕ → SeatState T → Type 0
   LoadsBoth st before tail after = let v = before.0 in (after ≡ (saw_empty v tail, [])) × (v.put ≡ v.taken ++ drop (length v.taken) v.put)
 
   -- a note's seat neither sends nor receives, and knows of a head and a tail

@@ -8,14 +8,14 @@ use crate::slots::take_next;
 impl<T: Drop> RingRx<T> {
     /// Takes the oldest item that was not yet taken. It doesn't wait.
     ///
-    /// `None` comes only where the tail that this very call read is the number of items taken: at that moment nothing waited.
+    /// `None` comes only where the tail that this very call read is the number of items taken: at that moment all that was put was taken.
     pub fn pop(&mut self) -> Option<T>
         ensures same { IsSameRx self.old self.new }
         ensures item { IfSome result (λ item. taken self.new ≡ taken self.old ++ item ∷ []) }
         ensures none { IfNone result (taken self.new ≡ taken self.old) }
 
-        // Each pop makes one load of the tail, its first step, and one that took an item a store of the head behind it. The tail
-        // seen last is the one of this load, and no smaller than any before.
+        // Each pop loads the tail once, and stores the head once where it takes an item. So the tail that this end saw last is the
+        // one that this call loaded. It is no smaller than any that the end loaded or learnt before.
         ensures none_by_the_tail { IfNone result (tail_seen self.new ≡ length (taken self.old)) }
         ensures steps_none { IfNone result (rx_steps self.new ≡ rx_steps self.old + 1) }
         ensures steps_item { IfSome result (λ _. rx_steps self.new ≡ rx_steps self.old + 2) }

@@ -20,12 +20,15 @@
 //! moment within the call, and may be out of date once it returns. `push` and `pop` never wait, and only `ring` takes memory.
 //! Every step is sequentially consistent.
 //!
+//! The two ends may also tell each other how far they are, by a note that goes some other way: an end that has learnt a note reads
+//! no smaller number than the note tells. So after the consumer's note that a slot is free, the next push is accepted.
+//!
 //! # Where it lies
 //!
-//! The head and the tail lie in lines of the cache of their own, 128 bytes from each other and from the ends of their block, as
-//! processors fetch lines in pairs. So a store by one end takes no line away from the other end but the one with the word that
-//! the other end reads. A ring has 384 bytes of words, and its slots lie in another block, side by side: a slot that is being
-//! filled may share a line with one that is being emptied.
+//! The head and the tail lie in lines of the cache of their own, 128 bytes from each other and from the ends of their block, since
+//! processors fetch lines in pairs. So a store of one of them slows no load of the other. A ring has 384 bytes of words, most of
+//! them spare. Its slots lie side by side in a block of their own: where items are small, a slot that is being filled may share a
+//! line with one that is being emptied.
 #![tactic(auto)]
 
 mod closing;

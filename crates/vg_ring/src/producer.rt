@@ -9,15 +9,15 @@ impl<T: Drop> RingTx<T> {
     /// Puts the item behind all that were accepted. It doesn't wait.
     ///
     /// `Full` gives the item back, and comes only where the head that this very call read is the number accepted less the number
-    /// of slots: at that moment every slot had an item that was not yet taken, or had not yet been given back.
+    /// of slots: at that moment as many items as there are slots were put and not taken.
     pub fn push(&mut self, item: T) -> Result<(), Full<T>>
         requires { length (put self.old) < 2 ^ 62 }
         ensures same { IsSameTx self.old self.new }
         ensures ok { OnOk result (put self.new ≡ put self.old ++ item ∷ []) }
         ensures full { IfErr result (λ full. (full.item ≡ item) × (full.accepted ≡ length (put self.old)) × (put self.new ≡ put self.old)) }
 
-        // Each push makes one load of the head, its first step, and an accepted one a store of the tail behind it. The head seen
-        // last is the one of this load, and no smaller than any before.
+        // Each push loads the head once, and stores the tail once where it accepts the item. So the head that this end saw last is
+        // the one that this call loaded. It is no smaller than any that the end loaded or learnt before.
         ensures full_by_the_head { IfErr result (λ full. head_seen self.new + tx_slots self.old ≡ full.accepted) }
         ensures steps_full { OnErr result (tx_steps self.new ≡ tx_steps self.old + 1) }
         ensures steps_ok { OnOk result (tx_steps self.new ≡ tx_steps self.old + 2) }

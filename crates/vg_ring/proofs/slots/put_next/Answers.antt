@@ -1,9 +1,9 @@
-use Rattle.std.proofs.Common.{rules, arith, ◌≡◌, ◌+◌, ◌%◌, ◌∷◌, [], ◌∙◌, sym, subst, ap, length, Some, None}
+use Rattle.std.proofs.Common.{rules, arith, ◌≡◌, ◌+◌, ◌%◌, [], ◌∙◌, sym, subst, ap, length, Some, None}
 use Rattle.vg_ring.specs.declared.seats.TheConstants.{HEAD}
 use Rattle.vg_ring.specs.Rule.{WasRead}
 use Rattle.vg_ring.specs.Steps.{put_one}
 use Rattle.vg_ring.proofs.ProducerLemmas.{loads_head, stores_tail}
-use Rattle.vg_ring.proofs.HeldLemmas.{last, given}
+use Rattle.vg_ring.proofs.HeldLemmas.{given}
 use Rattle.vg_ring.proofs.slots.put_next.Goals as goal
 
 pub load-head-requires : goal.load-head-requires
