@@ -9,10 +9,11 @@ module _ (T : Type 0) (m : SeatState T) (w : View T) (i : ℕ) (x : Option T) (t
   pub last : (slot : ℕ) → i ≡ slot → m.1 ≡ (slot, x) ∷ rest m.1
   last slot is = ap (λ (z : SeatState T). z.1) took ∙ (λ k. (is k, x) ∷ rest ((sym took k).1))
 
+  -- what it holds after an exchange there
   pub given : (n : SeatState T) (slot : ℕ) (y : Option T) → n ≡ (m.0, (slot, y) ∷ rest m.1) → n ≡ (w, (slot, y) ∷ [])
   given n slot y is = is ∙ (λ k. ((took k).0, (slot, y) ∷ rest ((took k).1)))
 
-  -- what was there
+  -- what the exchange found there
   pub was : (slot : ℕ) (y : Option T) → m.1 ≡ (slot, y) ∷ rest m.1 → x ≡ y
   was slot y is = ap item (sym (ap (λ (z : SeatState T). z.1) took) ∙ is)
     where

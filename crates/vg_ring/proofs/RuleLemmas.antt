@@ -15,6 +15,7 @@ pub apart : (a b n : ℕ) → a ≤ b → b < a + n → a ≢ b → a % n ≢ b 
 apart a b n le lt ne e = ne (one_turn a b n le lt e)
 
 module _ (T : Type 0) where
+  -- the rule at the type T
   abbrev pub Ring : State (Option T) (View T) → Type 0
   Ring = IsRing
 

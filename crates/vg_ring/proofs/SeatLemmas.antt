@@ -28,10 +28,12 @@ module _ (T : Type 0) where
       (after_more (Knows r.put r.taken r.filling r.emptying r.producer r.consumer) s.views id v (note_of h t) know
       record { sender = λ z. absurd (cc); receiver = λ z. absurd (cc); head = l.0; tail = l.1 } (λ j d _ e. r.seats j d e))
 
+  -- a note of how many items were taken
   pub tells_taken : (id : ℕ) (v : View T) → v.receives ≡ true → Splits (Ring T) id v v (note_of (length v.taken) 0)
   tells_taken id v receives = notes id (length v.taken) 0 v
       (λ put taken _ _ _ _ k. let long : length v.taken ≡ length taken = ap length (k.receiver receives).1 in (omega arith, omega arith))
 
+  -- a note of how many items were put
   pub tells_put : (id : ℕ) (v : View T) → v.sends ≡ true → Splits (Ring T) id v v (note_of 0 (length v.put))
   tells_put id v sends = notes id 0 (length v.put) v
       (λ put taken _ _ _ _ k. let long : length v.put ≡ length put = ap length (k.sender sends).1 in (omega arith, omega arith))
