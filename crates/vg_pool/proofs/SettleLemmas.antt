@@ -4,7 +4,8 @@ use Rattle.std.specs.Prelude.{sum_by}
 use Rattle.std.proofs.lemmas.List.Sums.{sum_by_push}
 use Rattle.std.proofs.lemmas.List.{length-append}
 use Rattle.std.proofs.lemmas.Bool.{cases_lt}
-use Rattle.vg_pool.specs.Book.{PoolBook, CacheBook, IsCacheBook, given_of}
+use Rattle.vg_model.specs.PoolBook.{PoolBook, CacheBook, IsCacheBook}
+use Rattle.vg_pool.specs.Moves.{given_of}
 
 -- what a pool is once these caches gave their buffers back, and what their shares are together
 pub record IsSettled (total : ℕ) (before after : PoolBook) (caches : List CacheBook) (taken_parts taken given_parts given : ℕ) : Type 0 where
@@ -51,7 +52,7 @@ settle_one total before between after caches cache moved taken_parts taken given
       share_given = omega (arith, givens, s.share_given, len);
       same_taken = ap (λ p. p.taken) pool ∙ s.same_taken;
       book_given = omega (arith, book, len, s.book_given);
-      kept = omega (arith, lens, takens, givens, allocateds, freeds, s.kept, kept.whole);
+      kept = omega (arith, lens, takens, givens, allocateds, freeds, s.kept, kept);
       fits = omega (arith, len, count, s.fits);
       moved = omega (arith, len, lens, count, s.moved);
       full = rw (len, count, lens) (all_or_full total between.len before.len (sum_by (λ c. c.len) caches) cache.len s.fits s.full s.moved);

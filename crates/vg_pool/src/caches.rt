@@ -1,7 +1,8 @@
 //! Caches: the buffers of one worker.
-ghost use Rattle.std.specs.Prelude.{◌≡◌, ◌+◌, ◌-◌, ◌^◌, ◌<◌, MatchOption, IfOk};
-ghost use Rattle.vg_pool.specs.Book.{IsCacheBook, empty_cache, most_cached};
+ghost use Rattle.std.specs.Prelude.{◌≡◌, ◌+◌, ◌-◌, ◌^◌, ◌<◌, ◌≤◌, MatchOption, IfOk};
+ghost use Rattle.vg_model.specs.PoolBook.{IsCacheBook, empty_cache};
 ghost use Rattle.vg_pool.specs.Contents.{nothing};
+ghost use Rattle.vg_pool.specs.Moves.{most_cached};
 
 use crate::buffers::Buffer;
 use std::alloc::{AllocError, Global};
@@ -25,7 +26,8 @@ pub struct Cache<T: Ledger, G: Ledger> {
 
 impl<T: Ledger, G: Ledger> Model for Cache<T, G> {
     ghost use Rattle.std.specs.Prelude.{◌≡◌, ◌+◌, ◌≤◌, vec_len, vec_capacity};
-    ghost use Rattle.vg_pool.specs.Book.{CacheBook, most_cached};
+    ghost use Rattle.vg_model.specs.PoolBook.{CacheBook};
+    ghost use Rattle.vg_pool.specs.Moves.{most_cached};
 
     ghost Value = { CacheBook };
 
@@ -59,6 +61,7 @@ impl<T: Ledger, G: Ledger> Cache<T, G> {
     /// How many buffers it has.
     pub fn len(&self) -> u32
         ensures len { result ≡ self.now.len }
+        ensures room { self.now.len ≤ most_cached }
         ensures kept { IsCacheBook self.now }
     {
         self.items.len() as u32

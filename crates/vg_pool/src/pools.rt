@@ -1,6 +1,7 @@
 //! The pool.
 ghost use Rattle.std.specs.Prelude.{◌≡◌, ◌+◌, ◌-◌, ◌≤◌, IfOk, vec_len, vec_capacity, replicate, sum_by};
-ghost use Rattle.vg_pool.specs.Book.{IsPoolBook, empty_cache, taken_of, given_of};
+ghost use Rattle.vg_model.specs.PoolBook.{IsPoolBook, empty_cache};
+ghost use Rattle.vg_pool.specs.Moves.{taken_of, given_of};
 
 use crate::books::PoolLedger;
 use crate::buffers::Buffer;
@@ -29,7 +30,7 @@ pub struct Pool<T: PoolLedger, G: Ledger> {
 
 impl<T: PoolLedger, G: Ledger> Model for Pool<T, G> {
     ghost use Rattle.std.specs.Prelude.{◌≡◌, ◌+◌, ◌^◌, ◌<◌, ◌≤◌, vec_len, vec_capacity};
-    ghost use Rattle.vg_pool.specs.Book.{PoolBook};
+    ghost use Rattle.vg_model.specs.PoolBook.{PoolBook};
 
     ghost Value = { PoolBook };
 

@@ -1,5 +1,5 @@
 use Rattle.std.specs.Prelude.{◌≡◌, ◌+◌, replicate}
-use Rattle.vg_pool.specs.Book.{empty_cache}
+use Rattle.vg_model.specs.PoolBook.{empty_cache}
 use Rattle.vg_pool.proofs.pools.Pool.made.Given as goal
 
 abbrev pub invariant-loop : goal.invariant-loop

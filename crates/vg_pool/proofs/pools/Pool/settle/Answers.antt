@@ -1,5 +1,5 @@
 use Rattle.std.proofs.Common.{◌∙◌, ap}
-use Rattle.vg_pool.specs.Book.{given_of}
+use Rattle.vg_pool.specs.Moves.{given_of}
 use Rattle.vg_pool.proofs.SettleLemmas.{settle_one}
 use Rattle.vg_pool.proofs.pools.Pool.settle.Goals as goal
 
