@@ -1,12 +1,15 @@
 //! Tests of the pool, its caches and the buffers.
-ghost use Rattle.std.specs.Prelude.{◌≡◌};
+ghost use Rattle.std.specs.Prelude.{◌≡◌, [], ◌∷◌};
+ghost use Rattle.vg_model.specs.Packet.{fresh};
+ghost use Rattle.vg_pool.specs.Contents.{Passes, written};
 
-use crate::{Cache, Pool, PoolLedger};
+use crate::{Buffer, Cache, Pool, PoolLedger};
 use std::alloc::Global;
 use std::marker::Brand;
 use std::process::Abort;
 use std::sync::ledger::{Blank, Ledger};
 use std::test::Fail;
+use vg_model::Leg;
 
 // A pool of 300 with two caches: buffers are taken, allocated and freed, one of them into the other cache, and settled. How many
 // the pool has then.
@@ -70,4 +73,63 @@ fn a_dropped_buffer_is_missing_as_the_caches_are_settled(rt: HostRuntime) -> Res
     )?;
     assert_eq!(rt; len, 299);
     Ok(())
+}
+
+// An Ethernet frame whose IPv4 header passes its checks: 20 bytes from 192.0.2.1 to 10.1.2.3, of protocol 17 and time to live 64.
+fn frame() -> [u8; 34]
+    ensures passes { Passes (fresh 7 result) }
+    ensures still_passes { Passes (written (fresh 7 result) 0 (2 ∷ 0 ∷ 0 ∷ 0 ∷ 0 ∷ 9 ∷ [])) }
+{
+    [
+        2, 0, 0, 0, 0, 0, 2, 0, 0, 0, 0, 1, 0x08, 0x00, 0x45, 0, 0, 20, 0, 0, 0, 0, 64, 17, 0xac,
+        0xd4, 192, 0, 2, 1, 10, 1, 2, 3,
+    ]
+}
+
+#[test]
+fn a_packet_is_put_into_a_buffer_and_changed(rt: HostRuntime) -> Result<(), Fail> {
+    let frame = frame();
+    let mut buffer = Buffer::new(rt.alloc())?;
+    buffer.fill(7, &frame);
+    assert_eq!(rt; buffer.number(), 7);
+    assert!(rt; buffer.bytes() == frame.as_slice());
+    assert_eq!(rt; buffer.checked(), false);
+    assert_eq!(rt; buffer.adjacency(), None);
+    assert_eq!(rt; buffer.interface(), None);
+    assert!(rt; buffer.legs().is_empty());
+
+    buffer.mark();
+    buffer.write(0, &[2, 0, 0, 0, 0, 9]);
+    buffer.set_adjacency(3);
+    buffer.set_interface(1);
+    let leg = Leg {
+        worker: 1,
+        generation: 2,
+    };
+    buffer.add_leg(leg);
+    assert_eq!(rt; buffer.number(), 7);
+    assert!(rt; buffer.bytes()[..6] == [2, 0, 0, 0, 0, 9]);
+    assert!(rt; buffer.bytes()[6..] == frame[6..]);
+    assert_eq!(rt; buffer.checked(), true);
+    assert_eq!(rt; buffer.adjacency(), Some(3));
+    assert_eq!(rt; buffer.interface(), Some(1));
+    assert!(rt; buffer.legs() == [leg].as_slice());
+
+    buffer.unmark();
+    assert_eq!(rt; buffer.checked(), false);
+    Ok(())
+}
+
+// A type whose values may go to another thread.
+fn crosses_threads<T: Send>() {}
+
+fn parts_cross_threads<T: PoolLedger + Send, G: Ledger + Send>() {
+    crosses_threads::<Buffer>();
+    crosses_threads::<Cache<T, G>>();
+    crosses_threads::<Pool<T, G>>();
+}
+
+#[test]
+fn buffers_caches_and_pools_cross_threads(_rt: HostRuntime) {
+    parts_cross_threads::<Brand, Brand>();
 }
