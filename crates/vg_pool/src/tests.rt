@@ -49,29 +49,20 @@ fn settled<T: PoolLedger, G: Ledger, R: Abort>(
     Ok(len)
 }
 
+// The same under ledgers of its own.
+fn settled_anew<R: Abort>(rt: &R, alloc: Global, loses_one: bool) -> Result<u32, Fail> {
+    settled::<Brand, Brand, R>(rt, alloc, Blank::new(2), Blank::new(2), loses_one)
+}
+
 #[test]
 fn all_buffers_are_back_as_the_caches_are_settled(rt: HostRuntime) -> Result<(), Fail> {
-    let len = settled::<Brand, Brand, HostRuntime>(
-        &rt,
-        rt.alloc(),
-        Blank::new(2),
-        Blank::new(2),
-        false,
-    )?;
-    assert_eq!(rt; len, 300);
+    assert_eq!(rt; settled_anew(&rt, rt.alloc(), false)?, 300);
     Ok(())
 }
 
 #[test]
 fn a_dropped_buffer_is_missing_as_the_caches_are_settled(rt: HostRuntime) -> Result<(), Fail> {
-    let len = settled::<Brand, Brand, HostRuntime>(
-        &rt,
-        rt.alloc(),
-        Blank::new(2),
-        Blank::new(2),
-        true,
-    )?;
-    assert_eq!(rt; len, 299);
+    assert_eq!(rt; settled_anew(&rt, rt.alloc(), true)?, 299);
     Ok(())
 }
 
@@ -93,7 +84,7 @@ fn a_packet_is_put_into_a_buffer_and_changed(rt: HostRuntime) -> Result<(), Fail
     buffer.fill(7, &frame);
     assert_eq!(rt; buffer.number(), 7);
     assert!(rt; buffer.bytes() == frame.as_slice());
-    assert_eq!(rt; buffer.checked(), false);
+    assert!(rt; !buffer.checked());
     assert_eq!(rt; buffer.adjacency(), None);
     assert_eq!(rt; buffer.interface(), None);
     assert!(rt; buffer.legs().is_empty());
@@ -110,13 +101,13 @@ fn a_packet_is_put_into_a_buffer_and_changed(rt: HostRuntime) -> Result<(), Fail
     assert_eq!(rt; buffer.number(), 7);
     assert!(rt; buffer.bytes()[..6] == [2, 0, 0, 0, 0, 9]);
     assert!(rt; buffer.bytes()[6..] == frame[6..]);
-    assert_eq!(rt; buffer.checked(), true);
+    assert!(rt; buffer.checked());
     assert_eq!(rt; buffer.adjacency(), Some(3));
     assert_eq!(rt; buffer.interface(), Some(1));
     assert!(rt; buffer.legs() == [leg].as_slice());
 
     buffer.unmark();
-    assert_eq!(rt; buffer.checked(), false);
+    assert!(rt; !buffer.checked());
     Ok(())
 }
 

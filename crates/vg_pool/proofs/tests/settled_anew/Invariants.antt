@@ -1,4 +1,4 @@
-use Rattle.vg_pool.proofs.tests.all_buffers_are_back_as_the_caches_are_settled.Given as goal
+use Rattle.vg_pool.proofs.tests.settled_anew.Given as goal
 
 abbrev pub ghosts-settled-T-PoolLedger : goal.ghosts-settled-T-PoolLedger
 ghosts-settled-T-PoolLedger g a = record { total = 300 }
