@@ -1,0 +1,243 @@
+-- The classes of words, in the steps in which they are read.
+use Rattle.std.proofs.Common.{◌≡◌, ℕ, suc, ◌-◌, ◌%◌, ◌^◌, ◌<◌, ◌≤◌, Bool, true, false, cond, not, ◌&&◌, ◌||◌, ltb, leb, eqb, List, [], ◌∷◌, length, drop, get_or, refl, sym, ap, subst, ◌∙◌, arith, true≢false, ltb-true, lt-ltb, le-leb, leb-true, eq-eqb, ne_eqb, IsUtf8, rules, ◌==◌}
+use Rattle.std.proofs.Math.Dec.{T}
+use Rattle.std.proofs.Math.Facts.{leb_yes, eqb_yes}
+use Rattle.std.specs.Result.{OkIff}
+use Rattle.std.proofs.lemmas.Bool.{and_parts, and_from, and_right, lt-leb}
+use Rattle.std.specs.Prelude.{Option, Some, None, is_some, IfSome, ◌↔◌, Result, Ok, Err}
+use Rattle.std.specs.Char.{is_ascii_digit, is_ascii_hexdigit, digit_value}
+use Rattle.std.specs.List.{before_first, after_first, list_all, AllPass}
+use Rattle.std.specs.Str.Parse.{digits_value, IsNumeral, ParsesUnsigned}
+use Rattle.std.proofs.Math.Bridge.{le_prop}
+use Rattle.std.proofs.Math.Nat.{ℕ_set}
+use Rattle.std.proofs.lemmas.Bool.Decides.{nat_tests}
+use Rattle.std.proofs.lemmas.List.{get_or_past}
+use Rattle.std.proofs.lemmas.List.Sums.{AllPass-from_list_all, list_all-from_AllPass}
+use Rattle.std.proofs.lemmas.Str.{IsUtf8-from_ascii}
+use Rattle.std.proofs.lemmas.Str.Parse.{IsNumeralModel, numerals_by_value, parse_digits}
+use Rattle.vg_model.specs.Name.{IsName, is_name, is_name_byte}
+use Rattle.vg_model.specs.declared.routes.Prefix.{Prefix}
+use Rattle.vg_script.specs.Classes.{◌>>=◌, is_decimal, number_of, parted_by, pair_of, address_of, given, prefix, prefix_of, name_of}
+use native.Mathlib.Decide.{dec_lt}
+
+-- bytes that pass a test which only ASCII passes are UTF-8
+pub ascii_is_utf8 : (test : ℕ → Bool) → ((byte : ℕ) → test byte ≡ true → byte < 128) → (bytes : List ℕ) → list_all test bytes ≡ true → IsUtf8 bytes
+ascii_is_utf8 test small bytes all = IsUtf8-from_ascii bytes (λ i. small_at i (dec_lt i (length bytes)))
+  where
+    each : AllPass test bytes
+    each = AllPass-from_list_all test bytes all
+
+    small_at : (i : ℕ) → Dec (i < length bytes) → get_or bytes i 0 < 128
+    small_at i (yes h) = small _ (each i 0 h)
+    small_at i (no h) = rw (get_or_past bytes i 0 (omega (arith, h))) (omega arith)
+
+pub digits_are_utf8 : (bytes : List ℕ) → list_all is_ascii_digit bytes ≡ true → IsUtf8 bytes
+digits_are_utf8 = ascii_is_utf8 is_ascii_digit (λ byte h. grind (arith, nat_tests))
+
+pub hexdigits_are_utf8 : (bytes : List ℕ) → list_all is_ascii_hexdigit bytes ≡ true → IsUtf8 bytes
+hexdigits_are_utf8 = ascii_is_utf8 is_ascii_hexdigit (λ byte h. grind (arith, nat_tests))
+
+pub decimal_digits : (word : List ℕ) → is_decimal word ≡ true → list_all is_ascii_digit word ≡ true
+decimal_digits word h = (and_parts (ltb 0 (length word)) (list_all is_ascii_digit word) (and_parts (ltb 0 (length word) && list_all is_ascii_digit word) _ h).0).1
+
+pub decimal_some : (word : List ℕ) → is_decimal word ≡ true → 0 < length word
+decimal_some word h = ltb-true 0 (length word) (and_parts (ltb 0 (length word)) (list_all is_ascii_digit word) (and_parts (ltb 0 (length word) && list_all is_ascii_digit word) _ h).0).0
+
+-- decimal digits, as `parse` reads them
+pub decimals : IsNumeralModel (λ ds. list_all is_ascii_digit ds ≡ true) (digits_value 10)
+decimals = numerals_by_value _ (search rules)
+
+-- a number that `parse` doesn't read is too large
+pub no_number : (E : Type 0) (least most : ℕ) (word : List ℕ) (e : E) → most < 2 ^ 64 → is_decimal word ≡ true → ParsesUnsigned 64 10 word (Err e)
+    → None ≡ number_of least most word
+no_number E least most word e small decimal failed =
+    let not_read = parse_digits decimals 64 word (Err e) failed (decimal_digits word decimal) in
+    let large : most < digits_value 10 word = too_large (dec_lt (digits_value 10 word) (2 ^ 64)) not_read in
+    let test : leb (digits_value 10 word) most ≡ false = lt-leb (digits_value 10 word) most large in
+    sym (ap (λ b. cond b (Some (digits_value 10 word)) None) (and_right (is_decimal word && leb least (digits_value 10 word)) _ test))
+  where
+    too_large : Dec (digits_value 10 word < 2 ^ 64) → ((0 < length word) × (digits_value 10 word < 2 ^ 64) → ⊥) → most < digits_value 10 word
+    too_large (yes h) not_read = absurd (not_read (decimal_some word decimal, h))
+    too_large (no h) not_read = omega (arith, h, small)
+
+-- a byte of hexadecimal digits, as `from_str_radix` reads it
+hex_value : (byte : ℕ) → is_ascii_hexdigit byte ≡ true → digit_value byte < 16
+hex_value byte h = grind (arith, nat_tests)
+
+hex_no_plus : (byte : ℕ) → is_ascii_hexdigit byte ≡ true → eqb byte 43 ≡ false
+hex_no_plus byte h = grind (arith, nat_tests)
+
+pub pair_is_read : (E : Type 0) (text : List ℕ) (r : Result ℕ E) → length text ≡ 2 → list_all is_ascii_hexdigit text ≡ true → ParsesUnsigned 8 16 text r
+    → r ≡ Ok (digits_value 16 text)
+pair_is_read E [] r two all read = absurd (omega (arith, two))
+pair_is_read E (high ∷ []) r two all read = absurd (omega (arith, two))
+pair_is_read E (high ∷ low ∷ last ∷ others) r two all read = absurd (omega (arith, two))
+pair_is_read E (high ∷ low ∷ []) r two all read =
+    by_result r (subst (λ b. OkIff r (IsNumeral 16 (drop (cond b 1 0) (high ∷ low ∷ [])) × (digits_value 16 (drop (cond b 1 0) (high ∷ low ∷ [])) < 2 ^ 8)) (digits_value 16 (drop (cond b 1 0) (high ∷ low ∷ []))))
+    (hex_no_plus high first) read)
+  where
+    first : is_ascii_hexdigit high ≡ true
+    first = (and_parts (is_ascii_hexdigit high) _ all).0
+
+    second : is_ascii_hexdigit low ≡ true
+    second = (and_parts (is_ascii_hexdigit low) true (and_parts (is_ascii_hexdigit high) _ all).1).0
+
+    high_digit : digit_value high < 16
+    high_digit = hex_value high first
+
+    low_digit : digit_value low < 16
+    low_digit = hex_value low second
+
+    by_result : (r : Result ℕ E) → OkIff r (IsNumeral 16 (high ∷ low ∷ []) × (digits_value 16 (high ∷ low ∷ []) < 2 ^ 8)) (digits_value 16 (high ∷ low ∷ []))
+        → r ≡ Ok (digits_value 16 (high ∷ low ∷ []))
+    by_result (Ok x) h = ap Ok h.1
+    by_result (Err e) h = absurd (h ((omega arith, (high_digit, (low_digit, tt))), small))
+      where
+        small : digits_value 16 (high ∷ low ∷ []) < 2 ^ 8
+        small = omega (arith, high_digit, low_digit)
+
+pub pair-of : (text : List ℕ) → length text ≡ 2 → list_all is_ascii_hexdigit text ≡ true → pair_of text ≡ Some (digits_value 16 text)
+pair-of text two all = ap (λ b. cond b (Some (digits_value 16 text)) None) (and_from (eqb (length text) 2) (list_all is_ascii_hexdigit text) (eq-eqb (length text) 2 two) all)
+
+pub pair_ok : {E : Type 0} (text : List ℕ) (r : Result ℕ E) (byte : ℕ) → length text ≡ 2 → list_all is_ascii_hexdigit text ≡ true
+    → ParsesUnsigned 8 16 text r → r ≡ Ok byte → Some byte ≡ pair_of text
+pair_ok {E} text r byte two all h is =
+    let read : r ≡ Ok (digits_value 16 text) = pair_is_read E text r two all h in
+    let same : byte ≡ digits_value 16 text = cc in
+    ap Some same ∙ sym (pair-of text two all)
+
+pub pair_err : {E : Type 0} (text : List ℕ) (r : Result ℕ E) (e : E) → length text ≡ 2 → list_all is_ascii_hexdigit text ≡ true
+    → ParsesUnsigned 8 16 text r → r ≡ Err e → None ≡ pair_of text
+pair_err {E} text r e two all h is =
+    let read : r ≡ Ok (digits_value 16 text) = pair_is_read E text r two all h in
+    absurd cc
+
+-- it is a byte
+pub pair_small : (text : List ℕ) → length text ≡ 2 → list_all is_ascii_hexdigit text ≡ true → digits_value 16 text < 256
+pair_small [] two all = absurd (omega (arith, two))
+pair_small (high ∷ []) two all = absurd (omega (arith, two))
+pair_small (high ∷ low ∷ last ∷ others) two all = absurd (omega (arith, two))
+pair_small (high ∷ low ∷ []) two all =
+    let parts = and_parts (is_ascii_hexdigit high) _ all in
+    let first : digit_value high < 16 = hex_value high parts.0 in
+    let second : digit_value low < 16 = hex_value low (and_parts (is_ascii_hexdigit low) true parts.1).0 in
+    omega (arith, first, second)
+
+-- several digits without a zero in front
+pub long_decimal : (word : List ℕ) → 0 < length word → list_all is_ascii_digit word ≡ true → (length word ≡ 1 → ⊥)
+    → not (eqb (get_or word 0 0) 48) ≡ is_decimal word
+long_decimal word some all long =
+    sym (ap (λ b. b && (eqb (length word) 1 || not (eqb (get_or word 0 0) 48))) (and_from (ltb 0 (length word)) (list_all is_ascii_digit word) (lt-ltb 0 (length word) some) all)
+    ∙ ap (λ b. b || not (eqb (get_or word 0 0) 48)) (ne_eqb (length word) 1 long))
+
+-- the values of parts
+behind_value : Option (List ℕ) → Option ℕ → Option (List ℕ)
+behind_value others first = first >>= λ x. others >>= λ xs. Some (x ∷ xs)
+
+abbrev pub each : (List ℕ → Option ℕ) → List (List ℕ) → Option (List ℕ)
+each class [] = Some []
+each class (part ∷ parts) = class part >>= λ x. each class parts >>= λ xs. Some (x ∷ xs)
+
+pub parted_step : (mark : ℕ) (class : List ℕ → Option ℕ) (more : ℕ) (text part behind : List ℕ) (parts : List (List ℕ))
+    → part ≡ before_first (λ byte. byte == mark) text → behind ≡ after_first (λ byte. byte == mark) text
+    → parted_by mark class more behind ≡ each class parts → parted_by mark class (suc more) text ≡ each class (part ∷ parts)
+unfolding behind_value
+parted_step mark class more text part behind parts front back h =
+    ap (λ t. behind_value (parted_by mark class more (after_first (λ byte. byte == mark) text)) (class t)) (sym front)
+    ∙ ap (λ t. behind_value (parted_by mark class more t) (class part)) (sym back)
+    ∙ ap (λ o. behind_value o (class part)) h
+
+pub parted_last : (mark : ℕ) (class : List ℕ → Option ℕ) (text : List ℕ) → parted_by mark class 0 text ≡ each class (text ∷ [])
+parted_last mark class text = refl
+
+pub each_none : (class : List ℕ → Option ℕ) (part : List ℕ) (parts : List (List ℕ)) → None ≡ class part → each class (part ∷ parts) ≡ None
+unfolding behind_value
+each_none class part parts h = ap (behind_value (each class parts)) (sym h)
+
+pub each_some : (class : List ℕ → Option ℕ) (part : List ℕ) (parts : List (List ℕ)) (x : ℕ) (others : Option (List ℕ))
+    → Some x ≡ class part → each class parts ≡ others → each class (part ∷ parts) ≡ (others >>= λ xs. Some (x ∷ xs))
+unfolding behind_value
+each_some class part parts x others h rest = ap (behind_value (each class parts)) (sym h) ∙ ap (λ o. behind_value o (Some x)) rest
+
+-- what is given where a test passes, and where it doesn't
+given_yes : {X : Type 0} (test : Bool) (f : T test → Option X) (h : T test) → given test f ≡ f h
+given_yes true f h = refl
+given_yes false f h = absurd h
+
+given_no : {X : Type 0} (test : Bool) (f : T test → Option X) → test ≡ false → given test f ≡ None
+given_no true f h = absurd (true≢false h)
+given_no false f h = refl
+
+passes : (b : Bool) → b ≡ true → T b
+passes b h = subst T (sym h) tt
+
+-- a name, by the test
+pub name_by_test : (word : List ℕ) → is_name word ≡ true → IsName word
+name_by_test word h =
+    let long = and_parts (leb 1 (length word) && leb (length word) 32) (list_all is_name_byte word) h in
+    let bounds = and_parts (leb 1 (length word)) (leb (length word) 32) long.0 in
+    record { some = leb-true 1 (length word) bounds.0; few = leb-true (length word) 32 bounds.1; each = AllPass-from_list_all is_name_byte word long.1 }
+
+pub named : (word : List ℕ) → IsName word → is_name word ≡ true
+named word name =
+    and_from (leb 1 (length word) && leb (length word) 32) (list_all is_name_byte word)
+    (and_from (leb 1 (length word)) (leb (length word) 32) (le-leb 1 (length word) name.some) (le-leb (length word) 32 name.few))
+    (list_all-from_AllPass is_name_byte word name.each)
+
+-- a prefix of these bits
+abbrev pub prefix_with : (addr len : ℕ) → len ≤ 32 → addr % 2 ^ (32 - len) ≡ 0 → Prefix
+prefix_with addr len few host_bits = record { addr = addr; len = len; few = few; host_bits = host_bits }
+
+-- a prefix has its facts in one way
+one_fact : (addr len : ℕ) (few few' : len ≤ 32) (host host' : addr % 2 ^ (32 - len) ≡ 0)
+    → prefix_with addr len few host ≡ prefix_with addr len few' host'
+one_fact addr len few few' host host' =
+    ap (λ f. prefix_with addr len f host) (le_prop few few') ∙ ap (λ h. prefix_with addr len few' h) (ℕ_set _ _ host host')
+
+-- the prefix of an address and a length
+given_prefix : ℕ → ℕ → Option Prefix
+given_prefix addr len = given (leb len 32) (λ few. given (eqb (addr % 2 ^ (32 - len)) 0) (λ host_bits. Some (prefix addr len few host_bits)))
+
+prefix_parts : (word front back : List ℕ) (addr len : ℕ)
+    → front ≡ before_first (λ byte. byte == 47) word → back ≡ after_first (λ byte. byte == 47) word
+    → Some addr ≡ address_of front → Some len ≡ number_of 0 32 back → prefix_of word ≡ given_prefix addr len
+unfolding given_prefix
+prefix_parts word front back addr len at_front at_back addr_read len_read =
+    ap (λ t. address_of t >>= λ a. number_of 0 32 (after_first (λ byte. byte == 47) word) >>= λ l. given_prefix a l) (sym at_front)
+    ∙ ap (λ t. address_of front >>= λ a. number_of 0 32 t >>= λ l. given_prefix a l) (sym at_back)
+    ∙ ap (λ o. o >>= λ a. number_of 0 32 back >>= λ l. given_prefix a l) (sym addr_read)
+    ∙ ap (λ o. o >>= λ l. given_prefix addr l) (sym len_read)
+
+pub prefix_read : (word front back : List ℕ) (addr len : ℕ)
+    → front ≡ before_first (λ byte. byte == 47) word → back ≡ after_first (λ byte. byte == 47) word
+    → Some addr ≡ address_of front → Some len ≡ number_of 0 32 back
+    → (few : len ≤ 32) (host : addr % 2 ^ (32 - len) ≡ 0) → Some (prefix_with addr len few host) ≡ prefix_of word
+unfolding given_prefix
+prefix_read word front back addr len at_front at_back addr_read len_read few host =
+    let few_test : T (leb len 32) = passes (leb len 32) (le-leb len 32 few) in
+    let host_test : T (eqb (addr % 2 ^ (32 - len)) 0) = passes (eqb (addr % 2 ^ (32 - len)) 0) (eq-eqb _ 0 host) in
+    sym (prefix_parts word front back addr len at_front at_back addr_read len_read
+    ∙ given_yes (leb len 32) _ few_test
+    ∙ given_yes (eqb (addr % 2 ^ (32 - len)) 0) _ host_test
+    ∙ ap Some (one_fact addr len (leb_yes few_test) few (eqb_yes host_test) host))
+
+pub prefix_refused : (word front back : List ℕ) (addr len : ℕ)
+    → front ≡ before_first (λ byte. byte == 47) word → back ≡ after_first (λ byte. byte == 47) word
+    → Some addr ≡ address_of front → Some len ≡ number_of 0 32 back
+    → len ≤ 32 → (addr % 2 ^ (32 - len) ≡ 0 → ⊥) → None ≡ prefix_of word
+unfolding given_prefix
+prefix_refused word front back addr len at_front at_back addr_read len_read few host =
+    let few_test : T (leb len 32) = passes (leb len 32) (le-leb len 32 few) in
+    sym (prefix_parts word front back addr len at_front at_back addr_read len_read
+    ∙ given_yes (leb len 32) _ few_test
+    ∙ given_no (eqb (addr % 2 ^ (32 - len)) 0) _ (ne_eqb (addr % 2 ^ (32 - len)) 0 host))
+
+-- a name, by what reads it
+pub name_read : (word : List ℕ) (n : Option (List ℕ)) → ((is_some n ≡ true) ↔ IsName word) → IfSome n (λ n. n ≡ word) → name_of word ≡ n
+name_read word (Some n) some same =
+    ap (λ b. cond b (Some word) None) (named word (some.0 refl)) ∙ ap Some (sym same)
+name_read word None some same = ap (λ b. cond b (Some word) None) (no_name (is_name word) refl)
+  where
+    no_name : (b : Bool) → is_name word ≡ b → is_name word ≡ false
+    no_name false e = e
+    no_name true e = absurd (true≢false (sym (some.1 (name_by_test word e))))

@@ -1,0 +1,13 @@
+pub mod Examples
+pub mod SplitLemmas
+pub mod ClassLemmas
+pub mod FormLemmas
+pub mod ReadLemmas
+pub mod ValueLemmas
+pub mod AnswerLemmas
+pub mod LineLemmas
+pub mod LawfulLemmas
+pub mod PrintLemmas
+pub mod RoundTripLines
+pub mod RoundTripClasses
+pub mod RoundTripLemmas

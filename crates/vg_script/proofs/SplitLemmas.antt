@@ -1,0 +1,137 @@
+-- Texts that are split at the first byte of a kind, their lines and their words.
+use Rattle.std.proofs.Common.{◌≡◌, ◌==◌, ℕ, suc, ◌+◌, ◌-◌, ◌<◌, ◌≤◌, Bool, true, false, cond, ltb, List, [], ◌∷◌, length, take, drop, refl, sym, ap, subst, ◌∙◌, arith, ltb-true, ltb-false, lt-ltb, le-ltb, add-one, length-drop}
+use Rattle.std.proofs.lemmas.List.Splits.{slice_split_first}
+use Rattle.std.specs.Prelude.{Some, None, filter, nat_lt}
+use Rattle.std.specs.List.{position_or_len, before_first, after_first, slice_split, onto_first}
+use Rattle.std.proofs.lemmas.List.{take_all, drop_all, take_rest}
+use Rattle.vg_script.specs.Lines.{lines, is_blank, words}
+
+-- where a search found a place
+pub at_first : {X : Type 0} (p : X → Bool) (xs : List X) (place : ℕ)
+    → Some place ≡ cond (ltb (position_or_len p xs) (length xs)) (Some (position_or_len p xs)) None
+    → (place ≡ position_or_len p xs) × (place < length xs)
+at_first p xs place h = by_test (ltb (position_or_len p xs) (length xs)) refl h
+  where
+    by_test : (b : Bool) → ltb (position_or_len p xs) (length xs) ≡ b → Some place ≡ cond b (Some (position_or_len p xs)) None
+        → (place ≡ position_or_len p xs) × (place < length xs)
+    by_test true e h =
+        let same : place ≡ position_or_len p xs = cc in
+        let less = ltb-true _ _ e in
+        (same, omega (arith, less))
+    by_test false e h = absurd cc
+
+-- where it found none
+pub at_no_first : {X : Type 0} (p : X → Bool) (xs : List X)
+    → None ≡ cond (ltb (position_or_len p xs) (length xs)) (Some (position_or_len p xs)) None
+    → length xs ≤ position_or_len p xs
+at_no_first p xs h = by_test (ltb (position_or_len p xs) (length xs)) refl h
+  where
+    by_test : (b : Bool) → ltb (position_or_len p xs) (length xs) ≡ b → None ≡ cond b (Some (position_or_len p xs)) None
+        → length xs ≤ position_or_len p xs
+    by_test true e h = absurd cc
+    by_test false e h = ltb-false _ _ e
+
+-- what stands before the place, and what stands behind it
+pub before_place : {X : Type 0} (p : X → Bool) (xs : List X) (place : ℕ) → place ≡ position_or_len p xs → take place xs ≡ before_first p xs
+before_place p xs place h = ap (λ n. take n xs) h
+
+pub after_place : {X : Type 0} (p : X → Bool) (xs : List X) (place : ℕ) → place ≡ position_or_len p xs
+    → take (length xs - (place + 1)) (drop (place + 1) xs) ≡ after_first p xs
+after_place p xs place h = take_rest xs (place + 1) ∙ ap (λ n. drop (n + 1) xs) h
+
+-- all, and nothing
+pub before_none : {X : Type 0} (p : X → Bool) (xs : List X) → length xs ≤ position_or_len p xs → before_first p xs ≡ xs
+before_none p xs h = take_all (position_or_len p xs) xs h
+
+pub after_none : {X : Type 0} (p : X → Bool) (xs : List X) → length xs ≤ position_or_len p xs → after_first p xs ≡ []
+after_none p xs h = drop_all (position_or_len p xs + 1) xs (omega (arith, h))
+
+-- what is behind is shorter
+pub after_shorter : {X : Type 0} (p : X → Bool) (x : X) (xs : List X) → length (after_first p (x ∷ xs)) ≤ length xs
+after_shorter p x xs = omega (arith, length-drop (position_or_len p (x ∷ xs) + 1) (x ∷ xs))
+
+-- the first element passes, or another does
+first_passes : {X : Type 0} (p : X → Bool) (x : X) (xs : List X) → p x ≡ true → position_or_len p (x ∷ xs) ≡ 0
+first_passes p x xs h = rw h refl
+
+later_passes : {X : Type 0} (p : X → Bool) (x : X) (xs : List X) → p x ≡ false → position_or_len p (x ∷ xs) ≡ suc (position_or_len p xs)
+later_passes p x xs h = rw h (omega arith)
+
+pub before_first-yes : {X : Type 0} (p : X → Bool) (x : X) (xs : List X) → p x ≡ true → before_first p (x ∷ xs) ≡ []
+before_first-yes p x xs h = ap (λ n. take n (x ∷ xs)) (first_passes p x xs h)
+
+pub after_first-yes : {X : Type 0} (p : X → Bool) (x : X) (xs : List X) → p x ≡ true → after_first p (x ∷ xs) ≡ xs
+after_first-yes p x xs h = ap (λ n. drop (n + 1) (x ∷ xs)) (first_passes p x xs h)
+
+pub before_first-no : {X : Type 0} (p : X → Bool) (x : X) (xs : List X) → p x ≡ false → before_first p (x ∷ xs) ≡ x ∷ before_first p xs
+before_first-no p x xs h = ap (λ n. take n (x ∷ xs)) (later_passes p x xs h)
+
+pub after_first-no : {X : Type 0} (p : X → Bool) (x : X) (xs : List X) → p x ≡ false → after_first p (x ∷ xs) ≡ after_first p xs
+after_first-no p x xs h = ap (λ n. drop (n + 1) (x ∷ xs)) (later_passes p x xs h) ∙ rw (add-one, add-one) refl
+
+-- the first line of a text
+FirstLine : List ℕ → Type 0
+FirstLine bytes = lines bytes ≡ before_first (λ b. b == 10) bytes ∷ lines (after_first (λ b. b == 10) bytes)
+
+first_line : (byte : ℕ) (bytes : List ℕ) → onto_first byte (lines bytes) ≡ (byte ∷ before_first (λ b. b == 10) bytes) ∷ lines (after_first (λ b. b == 10) bytes)
+    → (b : Bool) → (byte == 10) ≡ b → FirstLine (byte ∷ bytes)
+unfolding FirstLine
+first_line byte bytes others true e =
+    rw (before_first-yes (λ b. b == 10) byte bytes e, after_first-yes (λ b. b == 10) byte bytes e, e) refl
+first_line byte bytes others false e =
+    rw (before_first-no (λ b. b == 10) byte bytes e, after_first-no (λ b. b == 10) byte bytes e, e) others
+
+pub lines-first : (byte : ℕ) (bytes : List ℕ)
+    → lines (byte ∷ bytes) ≡ before_first (λ b. b == 10) (byte ∷ bytes) ∷ lines (after_first (λ b. b == 10) (byte ∷ bytes))
+unfolding FirstLine
+lines-first byte [] = first_line byte [] refl (byte == 10) refl
+lines-first byte (next ∷ rest) = first_line byte (next ∷ rest) (ap (onto_first byte) (lines-first next rest)) (byte == 10) refl
+
+-- a text that isn't split
+not_split : (byte : ℕ) (bytes : List ℕ) → (length bytes ≤ position_or_len is_blank bytes → slice_split is_blank bytes ≡ bytes ∷ [])
+    → length (byte ∷ bytes) ≤ position_or_len is_blank (byte ∷ bytes) → (b : Bool) → is_blank byte ≡ b → slice_split is_blank (byte ∷ bytes) ≡ (byte ∷ bytes) ∷ []
+not_split byte bytes rest h true e =
+    let first : position_or_len is_blank (byte ∷ bytes) ≡ 0 = first_passes is_blank byte bytes e in
+    let long : suc (length bytes) ≤ 0 = subst (λ n. suc (length bytes) ≤ n) first h in
+    absurd (omega (arith, long))
+not_split byte bytes rest h false e =
+    let later : position_or_len is_blank (byte ∷ bytes) ≡ suc (position_or_len is_blank bytes) = later_passes is_blank byte bytes e in
+    let long : suc (length bytes) ≤ suc (position_or_len is_blank bytes) = subst (λ n. suc (length bytes) ≤ n) later h in
+    rw e (ap (onto_first byte) (rest (omega (arith, long))))
+
+slice_split-none : (bytes : List ℕ) → length bytes ≤ position_or_len is_blank bytes → slice_split is_blank bytes ≡ bytes ∷ []
+slice_split-none [] h = refl
+slice_split-none (byte ∷ bytes) h = not_split byte bytes (slice_split-none bytes) h (is_blank byte) refl
+
+-- the words, with this text in front where it is a word
+abbrev pub with_part : List ℕ → List (List ℕ) → List (List ℕ)
+with_part part words = cond (nat_lt 0 (length part)) (part ∷ words) words
+
+-- the words of a text are its first part, where that is a word, and the words behind
+pub words-first : (bytes : List ℕ) → words bytes ≡ with_part (before_first is_blank bytes) (words (after_first is_blank bytes))
+words-first bytes = by_test (ltb (position_or_len is_blank bytes) (length bytes)) refl
+  where
+    by_test : (b : Bool) → ltb (position_or_len is_blank bytes) (length bytes) ≡ b
+        → words bytes ≡ with_part (before_first is_blank bytes) (words (after_first is_blank bytes))
+    by_test true e = ap (filter (λ word. nat_lt 0 (length word))) (slice_split_first is_blank bytes 0 (ltb-true _ _ e))
+    by_test false e =
+        let none : length bytes ≤ position_or_len is_blank bytes = ltb-false _ _ e in
+        ap (filter (λ word. nat_lt 0 (length word))) (slice_split-none bytes none)
+        ∙ sym (ap (with_part (before_first is_blank bytes)) (ap words (after_none is_blank bytes none)) ∙ ap (λ part. with_part part []) (before_none is_blank bytes none))
+
+-- a text that begins with a word, and one that doesn't
+pub words-word : (bytes part behind : List ℕ) → part ≡ before_first is_blank bytes → behind ≡ after_first is_blank bytes → 0 < length part
+    → words bytes ≡ part ∷ words behind
+words-word bytes part behind front back some =
+    words-first bytes
+    ∙ ap (λ w. with_part w (words (after_first is_blank bytes))) (sym front)
+    ∙ ap (λ b. with_part part (words b)) (sym back)
+    ∙ ap (λ b. cond b (part ∷ words behind) (words behind)) (lt-ltb 0 (length part) some)
+
+pub words-blank : (bytes part behind : List ℕ) → part ≡ before_first is_blank bytes → behind ≡ after_first is_blank bytes → length part ≤ 0
+    → words bytes ≡ words behind
+words-blank bytes part behind front back none =
+    words-first bytes
+    ∙ ap (λ w. with_part w (words (after_first is_blank bytes))) (sym front)
+    ∙ ap (λ b. with_part part (words b)) (sym back)
+    ∙ ap (λ b. cond b (part ∷ words behind) (words behind)) (le-ltb 0 (length part) none)

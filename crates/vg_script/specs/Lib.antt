@@ -1,0 +1,9 @@
+pub mod Causes
+pub mod Lines
+pub mod Classes
+pub mod Statements
+pub mod Reading
+pub mod Plain
+pub mod Lawful
+pub mod RoundTrip
+pub mod Keywords

@@ -1,0 +1,24 @@
+//! Scripts: the text that says how the graph is edited, read and printed.
+//!
+//! A script is lines of words. Outside blocks stand the edits that are made before the first packet; an `at` or a `process`
+//! begins a block, whose edits are made while packets go through the graph. Blocks are defined, and none is read yet: each
+//! is refused as too many generations.
+#![tactic(auto)]
+
+mod classes;
+pub mod errors;
+pub mod laws;
+pub mod lists;
+mod reading;
+pub mod scripts;
+mod statements;
+#[cfg(test)]
+mod tests;
+mod words;
+mod writing;
+
+pub use errors::{ScriptCause, ScriptError};
+pub use lists::{Blocks, Groups};
+pub use reading::{LARGEST_SCRIPT, parse_script};
+pub use scripts::{Block, Script};
+pub use writing::print_script;
