@@ -1,0 +1,7 @@
+pub mod HeaderLemmas
+pub mod LegLemmas
+pub mod WalkLemmas
+pub mod TallyLemmas
+pub mod CountLemmas
+pub mod LogLemmas
+pub mod Routed

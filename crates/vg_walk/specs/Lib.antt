@@ -1,0 +1,4 @@
+pub mod Packets
+pub mod Walks
+pub mod Tallies
+pub mod Legs
