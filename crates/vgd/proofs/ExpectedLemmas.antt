@@ -2,14 +2,16 @@
 use Rattle.std.proofs.Common.{◌≡◌, ℕ, ◌≤◌, ◌⊎◌, List, refl, sym, ap, subst, ◌∙◌, inl, inr, arith}
 use Rattle.std.specs.Prelude.{Option, Some, None, Result, Ok, Err, IfSome, IsSomeAnd}
 use Rattle.std.proofs.lemmas.Option.{none-some, same_Some}
-use Rattle.vg_model.specs.declared.edits.EditLine.{EditLine}
+use Rattle.vg_model.specs.Graph.{Graph}
 use Rattle.vg_outside.specs.Files.{Files, file, Rose, FailedLoad}
 use Rattle.vg_capture.specs.declared.captures.Capture.{Capture}
 use Rattle.vg_capture.specs.Savefile.{capture_of}
 use Rattle.vgd.specs.declared.refusals.Refusal.{Refusal}
 use Rattle.vgd.specs.declared.refusals.Refusal.TheVariants as refusals
 use Rattle.vgd.specs.Command.{Run, command}
-use Rattle.vgd.specs.WireScript.{edits_of}
+use Rattle.vg_script.specs.declared.errors.ScriptError.{ScriptError}
+use Rattle.vgd.specs.Plan.{graphs_of}
+use Rattle.vgd.proofs.PlanLemmas.{graphs_by, planned_of}
 use Rattle.vgd.specs.Expected.{IsLoadable, IsExpectedOf, IsExpected, HasNoFault}
 use Rattle.vgd.specs.Run.{Call, AreLoaded, AreAccepted, IsLoadedNext, IsDone, IsRefused, IsDue, status_of, line_of}
 
@@ -59,17 +61,23 @@ same_script_bytes call run run' capture_bytes script_bytes capture_bytes' script
     let same : run' ≡ run = one_run call run run' l.is_command a.is_command in
     same_file call.files l.files run.script script_bytes script_bytes' l.told l.script_file (subst (λ (r : Run). IfSome call.files (λ fs. file fs r.script ≡ Some script_bytes')) same a.script_file)
 
+-- what was accepted made these graphs
+accepted_graphs : (call : Call) (run : Run) (capture : Capture) (graphs : List Graph) (a : AreAccepted call run capture graphs) → graphs_of a.script_bytes ≡ Ok graphs
+accepted_graphs call run capture graphs a = graphs_by a.script_bytes a.script a.is_script ∙ planned_of a.script.start graphs a.are_graphs
+
 -- what was accepted isn't refused
-accepts : (call : Call) (run run' : Run) (capture_bytes script_bytes : List ℕ) (capture : Capture) (edits : List EditLine) (status : ℕ)
-    → IsLoadable call run capture_bytes script_bytes → AreAccepted call run' capture edits → IsExpectedOf call run capture_bytes script_bytes status
+accepts : (call : Call) (run run' : Run) (capture_bytes script_bytes : List ℕ) (capture : Capture) (graphs : List Graph) (status : ℕ)
+    → IsLoadable call run capture_bytes script_bytes → AreAccepted call run' capture graphs → IsExpectedOf call run capture_bytes script_bytes status
     → (status ≡ 0) × HasNoFault call run.tx
-accepts call run run' capture_bytes script_bytes capture edits status l a (inl e) =
+accepts call run run' capture_bytes script_bytes capture graphs status l a (inl e) =
     absurd (ok-err capture e.1.0 (sym a.is_capture ∙ ap capture_of (same_capture_bytes call run run' capture_bytes script_bytes a.capture_bytes a.script_bytes l a.loaded) ∙ e.1.1))
-accepts call run run' capture_bytes script_bytes capture edits status l a (inr e) = by_script e.1
+accepts call run run' capture_bytes script_bytes capture graphs status l a (inr e) = by_script e.1
   where
-    by_script : ((status ≡ 5) × (edits_of script_bytes ≡ None)) ⊎ ((status ≡ 0) × ((edits : List EditLine) × (edits_of script_bytes ≡ Some edits)) × HasNoFault call run.tx)
+    by_script : ((status ≡ 5) × ((error : ScriptError) × (graphs_of script_bytes ≡ Err error))) ⊎ ((status ≡ 0) × ((graphs : List Graph) × (graphs_of script_bytes ≡ Ok graphs)) × HasNoFault call run.tx)
         → (status ≡ 0) × HasNoFault call run.tx
-    by_script (inl f) = absurd (none-some edits (sym f.1 ∙ sym (ap edits_of (same_script_bytes call run run' capture_bytes script_bytes a.capture_bytes a.script_bytes l a.loaded)) ∙ a.is_script))
+    by_script (inl f) =
+        absurd (ok-err graphs f.1.0 (sym (accepted_graphs call run' capture graphs a)
+        ∙ ap graphs_of (same_script_bytes call run run' capture_bytes script_bytes a.capture_bytes a.script_bytes l a.loaded) ∙ f.1.1))
     by_script (inr f) = (f.0, f.2)
 
 -- where files can be loaded, a refusal has the status to be expected
@@ -82,32 +90,32 @@ refused_expected call run capture_bytes script_bytes status (refusals.Load name)
 refused_expected call run capture_bytes script_bytes status (refusals.Capture fault) l (inl e) r = sym e.0
 refused_expected call run capture_bytes script_bytes status (refusals.Capture fault) l (inr e) r =
     absurd (ok-err e.0.0 fault (sym e.0.1 ∙ sym (ap capture_of (same_capture_bytes call run r.0.run capture_bytes script_bytes r.0.capture_bytes r.0.script_bytes l r.0.loaded)) ∙ r.0.is_fault))
-refused_expected call run capture_bytes script_bytes status refusals.Script l (inl e) r =
+refused_expected call run capture_bytes script_bytes status (refusals.Script error) l (inl e) r =
     absurd (ok-err r.0.capture e.1.0 (sym r.0.is_capture ∙ ap capture_of (same_capture_bytes call run r.0.run capture_bytes script_bytes r.0.capture_bytes r.0.script_bytes l r.0.loaded) ∙ e.1.1))
-refused_expected call run capture_bytes script_bytes status refusals.Script l (inr e) r = by_script e.1
+refused_expected call run capture_bytes script_bytes status (refusals.Script error) l (inr e) r = by_script e.1
   where
-    by_script : ((status ≡ 5) × (edits_of script_bytes ≡ None)) ⊎ ((status ≡ 0) × ((edits : List EditLine) × (edits_of script_bytes ≡ Some edits)) × HasNoFault call run.tx)
+    by_script : ((status ≡ 5) × ((error : ScriptError) × (graphs_of script_bytes ≡ Err error))) ⊎ ((status ≡ 0) × ((graphs : List Graph) × (graphs_of script_bytes ≡ Ok graphs)) × HasNoFault call run.tx)
         → 5 ≡ status
     by_script (inl f) = sym f.0
     by_script (inr f) =
-        absurd (none-some f.1.0 (sym r.0.is_fault ∙ ap edits_of (same_script_bytes call run r.0.run capture_bytes script_bytes r.0.capture_bytes r.0.script_bytes l r.0.loaded) ∙ f.1.1))
+        absurd (ok-err f.1.0 error (sym f.1.1 ∙ sym (ap graphs_of (same_script_bytes call run r.0.run capture_bytes script_bytes r.0.capture_bytes r.0.script_bytes l r.0.loaded)) ∙ r.0.is_fault))
 refused_expected call run capture_bytes script_bytes status (refusals.Save name) l e r =
     let same : r.run ≡ run = one_run call run r.run l.is_command r.accepted.loaded.is_command in
-    let none : HasNoFault call run.tx = (accepts call run r.run capture_bytes script_bytes r.capture r.edits status l r.accepted e).1 in
+    let none : HasNoFault call run.tx = (accepts call run r.run capture_bytes script_bytes r.capture r.graphs status l r.accepted e).1 in
     absurd (none (subst (λ (n : List ℕ). Rose (call.faults n) (call.faults_after n)) (r.named ∙ ap (λ (q : Run). q.tx) same) r.fault))
 
 -- what is due is what is to be expected
 pub due_expected : (call : Call) (status expected : ℕ) (line : List ℕ) → IsDue call status line → IsExpected call expected → status ≡ expected
 due_expected call status expected line (inl d) (inl e) = absurd (none-some d.1.run (sym e.1 ∙ d.1.accepted.loaded.is_command))
 due_expected call status expected line (inl d) (inr (run, capture_bytes, script_bytes, l, e)) =
-    d.0 ∙ sym (accepts call run d.1.run capture_bytes script_bytes d.1.capture d.1.edits expected l d.1.accepted e).0
+    d.0 ∙ sym (accepts call run d.1.run capture_bytes script_bytes d.1.capture d.1.graphs expected l d.1.accepted e).0
 due_expected call status expected line (inr (refusal, s, t, r)) (inl e) = s ∙ usage refusal r ∙ sym e.0
   where
     usage : (refusal : Refusal) → IsRefused call refusal → status_of refusal ≡ 2
     usage refusals.Usage r = refl
     usage (refusals.Load name) r = absurd (none-some r.0.run (sym e.1 ∙ r.0.is_command))
     usage (refusals.Capture fault) r = absurd (none-some r.0.run (sym e.1 ∙ r.0.loaded.is_command))
-    usage refusals.Script r = absurd (none-some r.0.run (sym e.1 ∙ r.0.loaded.is_command))
+    usage (refusals.Script error) r = absurd (none-some r.0.run (sym e.1 ∙ r.0.loaded.is_command))
     usage (refusals.Save name) r = absurd (none-some r.run (sym e.1 ∙ r.accepted.loaded.is_command))
 due_expected call status expected line (inr (refusal, s, t, r)) (inr (run, capture_bytes, script_bytes, l, e)) =
     s ∙ refused_expected call run capture_bytes script_bytes expected refusal l e r
@@ -117,7 +125,7 @@ status_least : (refusal : Refusal) → 2 ≤ status_of refusal
 status_least refusals.Usage = omega arith
 status_least (refusals.Load name) = omega arith
 status_least (refusals.Capture fault) = omega arith
-status_least refusals.Script = omega arith
+status_least (refusals.Script error) = omega arith
 status_least (refusals.Save name) = omega arith
 
 -- 0 is due where a run is done

@@ -1,120 +1,203 @@
--- The report of packets on the graph of the wire script is lawful.
-use Rattle.std.proofs.Common.{◌≡◌, ℕ, ◌+◌, ◌*◌, ◌≤◌, Bool, true, false, List, [], ◌∷◌, length, map, refl, ◌∙◌, arith, rules}
-use Rattle.std.specs.Prelude.{codes, nat_lt}
-use Rattle.std.specs.List.{AllByRecursion, IsDistinct, count_by, sum_by}
-use Rattle.std.proofs.lemmas.Bool.{ltb-true}
+-- The report of a log of a valid graph is lawful.
+use Rattle.std.proofs.Common.{◌≡◌, ◌≢◌, ℕ, zero, suc, ◌+◌, ◌*◌, ◌<◌, ◌≤◌, ◌^◌, Bool, true, false, cond, List, [], ◌∷◌, ◌++◌, length, map, refl, sym, ap, subst, ◌∙◌, arith}
+use Rattle.std.specs.Prelude.{filter, flat_map, count_by, nat_lt, bytes_eq, slice_get, Option, Some, None, IsSome, IfSome, option_map, unwrap_or}
+use Rattle.std.specs.List.{AllByRecursion, IsDistinct, enumerate_from, position_from}
+use Rattle.std.proofs.lemmas.Bool.{ltb-true, false≢true}
 use Rattle.std.proofs.lemmas.List.{length-map}
-use Rattle.std.proofs.lemmas.List.Sums.{AllPass-from_list_all, sum_by-cons}
-use Rattle.vg_report.specs.Lawful.{AreNamed, AreErrorsFrom, IsPacketLawful, IsLawful, names}
-use Rattle.vgd.specs.declared.walking.WireEnd.{WireEnd}
-use Rattle.vgd.specs.declared.walking.WireEnd.TheVariants as ends
-use Rattle.vgd.specs.WireReport.{is_too_long, is_short, is_unknown, is_sent, wire_line, wire_nodes, wire_errors, wire_report_by, wire_report}
-use Rattle.vgd.proofs.CountLemmas.{sum_weighed}
+use Rattle.std.proofs.lemmas.List.FromFn.{length-enumerate_from}
+use Rattle.std.proofs.lemmas.List.Sums.{count_by-le-length}
+use Rattle.std.proofs.lemmas.Option.{none-some, slice_get-map, slice_get_within}
+use Rattle.std.proofs.lemmas.Slice.Eq.{bytes_eq-Decides}
+use Rattle.vg_model.specs.declared.kinds.DropError.{DropError}
+use Rattle.vg_model.specs.declared.fates.End.{End}
+use Rattle.vg_model.specs.declared.fates.End.TheVariants as fate_ends
+use Rattle.vg_model.specs.declared.fates.Leg.{Leg}
+use Rattle.vg_model.specs.Errors.{error_number, all_errors}
+use Rattle.vg_model.specs.Name.{IsName}
+use Rattle.vg_model.specs.Graph.{Graph, Node, kind_at, pg_input}
+use Rattle.vg_model.specs.Valid.{IsValid}
+use Rattle.vg_model.specs.Edit.{most_nodes, most_interfaces}
+use Rattle.vg_model.specs.Journey.{Journey, end_of}
+use Rattle.vg_model.specs.Count.{node_count, error_count, interface_count, is_drop, is_sent_on}
+use Rattle.vg_model.proofs.Journeys.{map_some}
+use Rattle.vg_report.specs.declared.reports.Report.{Report}
+use Rattle.vg_report.specs.declared.reports.PacketLine.{PacketLine}
+use Rattle.vg_report.specs.Lawful.{AreNamed, AreErrorsFrom, IsDeclared, IsEndLawful, IsPacketLawful, IsLawful, names, number_of, error_place}
+use Rattle.vg_walk.specs.declared.logs.Log.{Log}
+use Rattle.vg_walk.specs.Walks.{IsLogOf, IsEndIn, only_leg}
+use Rattle.vgd.specs.Command.{plain_run}
+use Rattle.vgd.specs.Output.{report_of, node_errors, packet_line_of, named_end, node_name, interface_name}
+use Rattle.vgd.specs.Plan.{IsRouter}
+use Rattle.vgd.proofs.CongestionLemmas.{IsOwnEnd}
 
--- how many ends there are is how many there are of each
-pub ends_all : (es : List WireEnd) → count_by is_too_long es + count_by is_short es + count_by is_unknown es + count_by is_sent es ≡ length es
-ends_all es = let sum : sum_by (λ (e : WireEnd). 1) es ≡ 1 * count_by is_too_long es + 1 * count_by is_short es + 1 * count_by is_unknown es + 1 * count_by is_sent es = sum_weighed (λ e. 1) es in
-    omega (arith, sum, ones es)
+-- the names of counts are those of what is counted
+names_are : {X : Type 0} (name_of : X → List ℕ) (count : ℕ → ℕ) (k : ℕ) (xs : List X)
+    → names (map (λ (numbered : ℕ × X). (name_of numbered.1, count numbered.0)) (enumerate_from k xs)) ≡ map name_of xs
+names_are name_of count k [] = refl
+names_are name_of count k (x ∷ xs) = ap (λ l. name_of x ∷ l) (names_are name_of count (k + 1) xs)
+
+-- all counts are small
+all_small : {X : Type 0} (name_of : X → List ℕ) (count : ℕ → ℕ) (k : ℕ) (xs : List X) → ((n : ℕ) → count n < 2 ^ 63)
+    → AllByRecursion (λ (entry : List ℕ × ℕ). entry.1 < 2 ^ 63) (map (λ (numbered : ℕ × X). (name_of numbered.1, count numbered.0)) (enumerate_from k xs))
+all_small name_of count k [] h = tt
+all_small name_of count k (x ∷ xs) h = (h k, all_small name_of count (k + 1) xs h)
+
+-- the same, by the counts alone
+small_by : {X : Type 0} (name_of : X → List ℕ) (count : ℕ → ℕ) (k : ℕ) (xs : List X) → AllByRecursion (λ n. n < 2 ^ 63) (map (λ (numbered : ℕ × X). count numbered.0) (enumerate_from k xs))
+    → AllByRecursion (λ (entry : List ℕ × ℕ). entry.1 < 2 ^ 63) (map (λ (numbered : ℕ × X). (name_of numbered.1, count numbered.0)) (enumerate_from k xs))
+small_by name_of count k [] h = tt
+small_by name_of count k (x ∷ xs) h = (h.0, small_by name_of count (k + 1) xs h.1)
+
+-- a name that stands among names that differ is found where it stands
+found_first : (m : ℕ) (ns : List (List ℕ)) (i : ℕ) (n : List ℕ) → IsDistinct bytes_eq ns → slice_get ns i ≡ Some n → position_from (λ other. bytes_eq other n) m ns ≡ Some (m + i)
+unfolding IsDistinct
+found_first m [] i n d e = absurd (none-some n e)
+found_first m (first ∷ ns) zero n d e =
+    let same : first ≡ n = cc in
+    let test : bytes_eq first n ≡ true = (bytes_eq-Decides first n).1 same in
+    ap (λ b. cond b (Some m) (position_from (λ other. bytes_eq other n) (m + 1) ns)) test ∙ ap Some (omega arith)
+found_first m (first ∷ ns) (suc i) n d e =
+    let test : bytes_eq first n ≡ false = apart ns i d.0 e in
+    ap (λ b. cond b (Some m) (position_from (λ other. bytes_eq other n) (m + 1) ns)) test
+    ∙ (found_first (m + 1) ns i n d.1 e ∙ ap Some (omega arith))
   where
-    ones : (xs : List WireEnd) → sum_by (λ e. 1) xs ≡ length xs
-    ones [] = refl
-    ones (x ∷ xs) = let rest = ones xs in sum_by-cons (λ e. 1) x xs ∙ omega (arith, rest)
+    apart : (ns : List (List ℕ)) (i : ℕ) → AllByRecursion (λ y. bytes_eq first y ≡ false) ns → slice_get ns i ≡ Some n → bytes_eq first n ≡ false
+    apart [] i all e = absurd (none-some n e)
+    apart (y ∷ ns) zero all e = let same : y ≡ n = cc in subst (λ z. bytes_eq first z ≡ false) same all.0
+    apart (y ∷ ns) (suc i) all e = apart ns i all.1 e
 
--- the one interface
-interface_named : (x : ℕ) → x ≤ 65536 → AreNamed 16 ((codes "pg0", x) ∷ [])
-unfolding IsDistinct
-interface_named x h = record {
-  some = omega arith;
-  few = omega arith;
-  are_names = search (rules, AllPass-from_list_all);
-  differ = search rules;
-  small = (omega (arith, h), tt);
-}
+named_at : (ns : List (List ℕ)) (i : ℕ) (n : List ℕ) → IsDistinct bytes_eq ns → slice_get ns i ≡ Some n → number_of ns n ≡ Some i
+named_at ns i n d e = found_first 0 ns i n d e ∙ ap Some (omega arith)
 
--- the nine nodes
-nodes_named : (t s u x : ℕ) → t + s + u + x ≤ 65536 → AreNamed 64 (wire_nodes t s u x)
-unfolding IsDistinct
-nodes_named t s u x h = record {
-  some = omega arith;
-  few = omega arith;
-  are_names = search (rules, AllPass-from_list_all);
-  differ = search rules;
-  small = (omega (arith, h), (omega arith, (omega (arith, h), (omega arith, (omega arith, (omega arith, (omega arith, (omega (arith, h), (omega (arith, h), tt)))))))));
-}
+-- errors whose numbers follow one another
+abbrev AreInOrder : ℕ → List DropError → Type 0
+AreInOrder m [] = Unit {0}
+AreInOrder m (error ∷ errors) = (error_number error ≡ m) × AreInOrder (suc m) errors
 
--- the three errors, where they were made
-errors_lawful : (t s u x : ℕ) (a b c : Bool) → nat_lt 0 t ≡ a → nat_lt 0 s ≡ b → nat_lt 0 u ≡ c → t + s + u + x ≤ 65536
-    → AreErrorsFrom (names (wire_nodes t s u x)) 0 (wire_errors t s u)
-errors_lawful t s u x true true true h i j few = rw (h, i, j)
-    (refl, ltb-true 0 t h, omega (arith, few), omega arith, (refl, ltb-true 0 s i, omega (arith, few), omega arith, (refl, ltb-true 0 u j, omega (arith, few), omega arith, tt)))
-errors_lawful t s u x true true false h i j few = rw (h, i, j)
-    (refl, ltb-true 0 t h, omega (arith, few), omega arith, (refl, ltb-true 0 s i, omega (arith, few), omega arith, tt))
-errors_lawful t s u x true false true h i j few = rw (h, i, j)
-    (refl, ltb-true 0 t h, omega (arith, few), omega arith, (refl, ltb-true 0 u j, omega (arith, few), omega arith, tt))
-errors_lawful t s u x true false false h i j few = rw (h, i, j) (refl, ltb-true 0 t h, omega (arith, few), omega arith, tt)
-errors_lawful t s u x false true true h i j few = rw (h, i, j)
-    (refl, ltb-true 0 s i, omega (arith, few), omega arith, (refl, ltb-true 0 u j, omega (arith, few), omega arith, tt))
-errors_lawful t s u x false true false h i j few = rw (h, i, j) (refl, ltb-true 0 s i, omega (arith, few), omega arith, tt)
-errors_lawful t s u x false false true h i j few = rw (h, i, j) (refl, ltb-true 0 u j, omega (arith, few), omega arith, tt)
-errors_lawful t s u x false false false h i j few = rw (h, i, j) tt
+-- the errors of a node that were made, and those of the nodes behind it
+node_lawful : (ns : List (List ℕ)) (k : ℕ) (name : List ℕ) (count : DropError → ℕ) → number_of ns name ≡ Some k → ((error : DropError) → count error < 2 ^ 63)
+    → (m : ℕ) (errors : List DropError) → AreInOrder m errors → m + length errors ≤ 19 → (least : ℕ) → least ≤ 19 * k + m
+    → (rest : List (List ℕ × DropError × ℕ)) → ((l : ℕ) → l ≤ 19 * (k + 1) → AreErrorsFrom ns l rest)
+    → AreErrorsFrom ns least (filter (λ (entry : List ℕ × DropError × ℕ). nat_lt 0 entry.2) (map {B = List ℕ × DropError × ℕ} (λ error. (name, error, count error)) errors) ++ rest)
+node_lawful ns k name count found small m [] order few least le rest later = later least (omega arith)
+node_lawful ns k name count found small m (error ∷ errors) order few least le rest later =
+    by_test (nat_lt 0 (count error)) refl (λ l h. node_lawful ns k name count found small (suc m) errors order.1 (omega arith) l h rest later)
+  where
+    others : List (List ℕ × DropError × ℕ)
+    others = filter (λ (entry : List ℕ × DropError × ℕ). nat_lt 0 entry.2) (map {B = List ℕ × DropError × ℕ} (λ error. (name, error, count error)) errors)
 
--- each packet's line
-line_lawful : (t s u x : ℕ) (all : List WireEnd) (e : WireEnd) → IsPacketLawful (wire_report_by t s u x all) (wire_line e)
-line_lawful t s u x all ends.TooLong = record {
-  some = omega arith;
-  few = omega arith;
-  workers = (omega arith, tt);
-  generations = (omega arith, tt);
-  congested = tt;
-  end = (refl, (λ h. cc, λ e. cc));
-}
-line_lawful t s u x all ends.Short = record {
-  some = omega arith;
-  few = omega arith;
-  workers = (omega arith, tt);
-  generations = (omega arith, tt);
-  congested = tt;
-  end = (refl, (λ h. cc, λ e. cc));
-}
-line_lawful t s u x all ends.UnknownType = record {
-  some = omega arith;
-  few = omega arith;
-  workers = (omega arith, tt);
-  generations = (omega arith, tt);
-  congested = tt;
-  end = (refl, (λ h. cc, λ e. cc));
-}
-line_lawful t s u x all ends.Sent = record {
-  some = omega arith;
-  few = omega arith;
-  workers = (omega arith, tt);
-  generations = (omega arith, tt);
-  congested = tt;
-  end = (refl, refl);
-}
+    place : error_place ns (name, error, count error) ≡ 19 * k + m
+    place = let number = order.0 in let at : unwrap_or (number_of ns name) 0 ≡ k = ap (λ o. unwrap_or o 0) found in omega (arith, at, number)
 
-lines_lawful : (t s u x : ℕ) (all es : List WireEnd) → AllByRecursion (IsPacketLawful (wire_report_by t s u x all)) (map wire_line es)
-lines_lawful t s u x all [] = tt
-lines_lawful t s u x all (e ∷ es) = (line_lawful t s u x all e, lines_lawful t s u x all es)
+    declared : IsDeclared ns name
+    declared = subst IsSome (sym found) refl
+
+    by_test : (b : Bool) → nat_lt 0 (count error) ≡ b → ((l : ℕ) → l ≤ 19 * k + suc m → AreErrorsFrom ns l (others ++ rest))
+        → AreErrorsFrom ns least (cond b ((name, error, count error) ∷ others) others ++ rest)
+    by_test true e behind =
+        (declared, ltb-true 0 (count error) e, small error, omega (arith, place, le), behind (suc (error_place ns (name, error, count error))) (omega (arith, place)))
+    by_test false e behind = behind least (omega (arith, le))
+
+-- the errors of nodes from a number on
+pub errors_lawful : (ns : List (List ℕ)) (js : List Journey) (k : ℕ) (nodes : List Node) → ((i : ℕ) (node : Node) → slice_get nodes i ≡ Some node → number_of ns node.name ≡ Some (k + i))
+    → ((n : ℕ) (error : DropError) → error_count n error js < 2 ^ 63) → (least : ℕ) → least ≤ 19 * k
+    → AreErrorsFrom ns least (flat_map (node_errors js) (enumerate_from k nodes))
+errors_lawful ns js k [] found small least le = tt
+errors_lawful ns js k (node ∷ nodes) found small least le =
+    node_lawful ns k node.name (λ error. error_count k error js) (found 0 node refl ∙ ap Some (omega arith)) (small k) 0 all_errors
+    (refl, (refl, (refl, (refl, (refl, (refl, (refl, (refl, (refl, (refl, (refl, (refl, (refl, (refl, (refl, (refl, (refl, (refl, (refl, tt))))))))))))))))))) (omega arith) least (omega arith)
+    (flat_map (node_errors js) (enumerate_from (k + 1) nodes))
+    (λ l h. errors_lawful ns js (k + 1) nodes (λ i node e. found (suc i) node e ∙ ap Some (omega arith)) small l h)
+
+-- what stands at a place within a list
+there : {X : Type 0} (xs : List X) (i : ℕ) → i < length xs → (x : X) × (slice_get xs i ≡ Some x)
+there [] i h = absurd (omega arith)
+there (x ∷ xs) zero h = (x, refl)
+there (x ∷ xs) (suc i) h = there xs i (omega arith)
+
+-- names that are those of a list's entries, and differ
+module _ {X : Type 0} (name_of : X → List ℕ) (xs : List X) (ns : List (List ℕ)) (are : ns ≡ map name_of xs) (differ : IsDistinct bytes_eq ns) where
+  pub declared_entry : (i : ℕ) (x : X) → slice_get xs i ≡ Some x → number_of ns (name_of x) ≡ Some i
+  declared_entry i x e = named_at ns i (name_of x) differ (ap (λ l. slice_get l i) are ∙ (slice_get-map name_of xs i ∙ ap (option_map name_of) e))
+
+  pub declared_at : (i : ℕ) → i < length xs → IsDeclared ns (unwrap_or (option_map name_of (slice_get xs i)) [])
+  declared_at i h =
+      let entry = there xs i h in
+      let named : unwrap_or (option_map name_of (slice_get xs i)) [] ≡ name_of entry.0 = ap (λ o. unwrap_or (option_map name_of o) []) entry.1 in
+      subst (IsDeclared ns) (sym named) (subst IsSome (sym (declared_entry i entry.0 entry.1)) refl)
+
+-- what a packet's line says of its end
+end_lawful : (g : Graph) (interfaces nodes : List (List ℕ)) (congested : Option ℕ) (end : End) → congested ≡ None → IsEndIn g end → IsOwnEnd end
+    → ((i : ℕ) → i < length g.interfaces → IsDeclared interfaces (interface_name g i)) → ((n : ℕ) → n < length g.nodes → IsDeclared nodes (node_name g n))
+    → IsEndLawful interfaces nodes congested (named_end g end)
+end_lawful g interfaces nodes congested (fate_ends.Tx i) none within own interface node = (interface i within, none)
+end_lawful g interfaces nodes congested (fate_ends.Dropped n error) none within own interface node =
+    (node n within, (λ some. absurd (false≢true (subst IsSome none some)), λ e. absurd (own e)))
+
+-- the packets' lines
+lines_lawful : (g : Graph) (r : Report) (js : List Journey) → r.workers ≡ 1 → r.generations ≡ 1
+    → AllByRecursion (λ (j : Journey). (j.accepted ≡ None) × (j.course.legs ≡ only_leg ∷ [])) js
+    → AllByRecursion (λ (j : Journey). IsEndIn g (end_of j.course.outcome)) js → AllByRecursion (λ (j : Journey). IsOwnEnd (end_of j.course.outcome)) js
+    → ((i : ℕ) → i < length g.interfaces → IsDeclared (names r.interfaces) (interface_name g i)) → ((n : ℕ) → n < length g.nodes → IsDeclared (names r.nodes) (node_name g n))
+    → AllByRecursion (IsPacketLawful r) (map (packet_line_of g) js)
+lines_lawful g r [] w gs legs ends own interface node = tt
+lines_lawful g r (j ∷ js) w gs legs ends own interface node = (
+  record {
+    some = let one = ap length legs.0.1 in omega (arith, one);
+    few = let one = ap length legs.0.1 in omega (arith, one);
+    workers = subst (AllByRecursion (λ (leg : Leg). leg.worker < r.workers)) (sym legs.0.1) (omega (arith, w), tt);
+    generations = subst (AllByRecursion (λ (leg : Leg). leg.generation < r.generations)) (sym legs.0.1) (omega (arith, gs), tt);
+    congested = subst (λ o. IfSome o (λ t. t < 2 ^ 62)) (sym legs.0.0) tt;
+    end = end_lawful g (names r.interfaces) (names r.nodes) j.accepted (end_of j.course.outcome) legs.0.0 ends.0 own.0 interface node;
+  },
+  lines_lawful g r js w gs legs.1 ends.1 own.1 interface node,
+)
+
+-- a list of counts has as many entries as what is counted
+as_many : {X Y : Type 0} (f : ℕ × X → Y) (xs : List X) → length (map f (enumerate_from 0 xs)) ≡ length xs
+as_many f xs = length-map (enumerate_from 0 xs) f ∙ length-enumerate_from 0 xs
 
 -- the whole report
-pub report_lawful : (es : List WireEnd) → length es ≤ 65536 → IsLawful (wire_report es)
-report_lawful es few =
-    let t : ℕ = count_by is_too_long es in
-    let s : ℕ = count_by is_short es in
-    let u : ℕ = count_by is_unknown es in
-    let x : ℕ = count_by is_sent es in
-    let all : t + s + u + x ≡ length es = ends_all es in
-    let small : t + s + u + x ≤ 65536 = omega (arith, all, few) in
-    record {
+pub report_lawful : (g : Graph) (log : Log) (js : List Journey) (capture script tx : List ℕ) (report : Report) → report ≡ report_of (plain_run capture script tx) (g ∷ []) js
+    → IsRouter g → IsLogOf g js log → length js ≤ 65536 → AllByRecursion (λ (j : Journey). IsOwnEnd (end_of j.course.outcome)) js
+    → AllByRecursion (λ (entry : List ℕ × ℕ). IsName entry.0) report.interfaces → AllByRecursion (λ (entry : List ℕ × ℕ). IsName entry.0) report.nodes → IsLawful report
+report_lawful g log js capture script tx report is router logged few own interface_names node_names =
+    let r : Report = report_of (plain_run capture script tx) (g ∷ []) js in
+    let interfaces_are : names r.interfaces ≡ map (λ i. i.name) g.interfaces = names_are (λ i. i.name) (λ n. interface_count n js) 0 g.interfaces in
+    let nodes_are : names r.nodes ≡ map (λ (n : Node). n.name) g.nodes = names_are (λ (n : Node). n.name) (λ n. node_count n js) 0 g.nodes in
+    let interfaces_differ : IsDistinct bytes_eq (names r.interfaces) = subst (IsDistinct bytes_eq) (sym interfaces_are) router.valid.interface_names in
+    let nodes_differ : IsDistinct bytes_eq (names r.nodes) = subst (IsDistinct bytes_eq) (sym nodes_are) router.valid.node_names in
+    let interfaces_long : length r.interfaces ≡ length g.interfaces = as_many (λ i. (i.1.name, interface_count i.0 js)) g.interfaces in
+    let nodes_long : length r.nodes ≡ length g.nodes = as_many (λ (n : ℕ × Node). (n.1.name, node_count n.0 js)) g.nodes in
+    let node = map_some (λ (n : Node). n.kind) (slice_get g.nodes pg_input) _ router.valid.source in
+    let some_node : 0 < length g.nodes = slice_get_within g.nodes pg_input node.0 node.1 in
+    subst IsLawful (sym is)
+    (record {
       workers = (omega arith, omega arith);
       buffers = omega arith;
       generations = (omega arith, omega arith);
-      interfaces = interface_named x (omega (arith, small));
-      nodes = nodes_named t s u x small;
-      errors = errors_lawful t s u x _ _ _ refl refl refl small;
-      few_packets = omega (arith, few, length-map es wire_line);
-      packets = lines_lawful t s u x es es;
+      interfaces = record {
+        some = omega (arith, interfaces_long, router.valid.interfaces);
+        few = omega (arith, interfaces_long, router.few_interfaces);
+        are_names = subst (λ (r : Report). AllByRecursion (λ (entry : List ℕ × ℕ). IsName entry.0) r.interfaces) is interface_names;
+        differ = interfaces_differ;
+        small = all_small (λ i. i.name) (λ n. interface_count n js) 0 g.interfaces
+            (λ n. let le = count_by-le-length (λ (j : Journey). is_sent_on n (end_of j.course.outcome)) js in omega (arith, le, few));
+      };
+      nodes = record {
+        some = omega (arith, nodes_long, some_node);
+        few = omega (arith, nodes_long, router.few_nodes);
+        are_names = subst (λ (r : Report). AllByRecursion (λ (entry : List ℕ × ℕ). IsName entry.0) r.nodes) is node_names;
+        differ = nodes_differ;
+        small = small_by (λ (n : Node). n.name) (λ n. node_count n js) 0 g.nodes (subst (AllByRecursion (λ n. n < 2 ^ 63)) logged.counts.visits logged.counts.small);
+      };
+      errors = errors_lawful (names r.nodes) js 0 g.nodes
+          (λ i n e. declared_entry (λ (n : Node). n.name) g.nodes (names r.nodes) nodes_are nodes_differ i n e ∙ ap Some (omega arith))
+          (λ n error. let le = count_by-le-length (λ (j : Journey). is_drop n error (end_of j.course.outcome)) js in omega (arith, le, few)) 0 (omega arith);
+      few_packets = let long = length-map js (packet_line_of g) in omega (arith, long, few);
+      packets = lines_lawful g r js refl refl logged.legs logged.ends own
+          (declared_at (λ i. i.name) g.interfaces (names r.interfaces) interfaces_are interfaces_differ)
+          (declared_at (λ (n : Node). n.name) g.nodes (names r.nodes) nodes_are nodes_differ);
       few_traces = (omega arith, omega arith);
       traces = tt;
-    }
+    })

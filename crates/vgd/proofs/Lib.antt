@@ -1,8 +1,8 @@
-pub mod PrintLemmas
-pub mod WalkLemmas
-pub mod SentLemmas
-pub mod RunLemmas
+pub mod CongestionLemmas
 pub mod CountLemmas
-pub mod ReportLemmas
-pub mod LawfulLemmas
 pub mod ExpectedLemmas
+pub mod LawfulLemmas
+pub mod PlanLemmas
+pub mod PrintLemmas
+pub mod ReportLemmas
+pub mod RunLemmas

@@ -1,149 +1,143 @@
--- The report of packets on the graph of the wire script.
-use Rattle.std.proofs.Common.{◌≡◌, ℕ, suc, ◌+◌, ◌*◌, Bool, true, false, cond, ◌&&◌, ◌==◌, List, [], ◌∷◌, ◌++◌, map, refl, ap, ◌∙◌, arith, true≢false}
-use Rattle.std.specs.Prelude.{codes, filter, nat_lt}
-use Rattle.std.proofs.lemmas.Bool.Decides.{nat_tests}
-use Rattle.std.specs.List.{count_by, flat_map, enumerate_from}
+-- The report of a log is that of its journeys.
+use Rattle.std.proofs.Common.{◌≡◌, ℕ, zero, suc, ◌+◌, ◌<◌, ◌≤◌, List, [], ◌∷◌, ◌++◌, length, map, refl, sym, ap, subst, ◌∙◌, arith}
+use Rattle.std.specs.Prelude.{filter, flat_map, nat_lt, slice_index, slice_index_or, Some, None}
+use Rattle.std.specs.List.{AllByRecursion, enumerate_from, zip}
+use Rattle.std.proofs.lemmas.List.{length-map}
+use Rattle.std.proofs.lemmas.List.FromFn.{length-enumerate_from}
 use Rattle.vg_model.specs.declared.kinds.DropError.{DropError}
-use Rattle.vg_model.specs.declared.kinds.DropError.TheVariants as errors
-use Rattle.vg_model.specs.declared.fates.End.TheVariants as fate_ends
-use Rattle.vg_model.specs.Errors.{error_number, all_errors}
-use Rattle.vg_model.specs.Graph.{Node}
-use Rattle.vg_model.specs.Journey.{Journey, Choice, end_of}
-use Rattle.vg_model.specs.Count.{node_count, error_count, interface_count, is_drop, is_sent_on}
-use Rattle.vgd.specs.declared.walking.WireEnd.{WireEnd}
-use Rattle.vgd.specs.declared.walking.WireEnd.TheVariants as ends
+use Rattle.vg_model.specs.declared.fates.Fate.{Fate}
+use Rattle.vg_model.specs.declared.fates.Leg.{Leg}
+use Rattle.vg_model.specs.Errors.{all_errors}
+use Rattle.vg_model.specs.Graph.{Graph, Node}
+use Rattle.vg_model.specs.Journey.{Journey, Choice, fate_of, fates, end_of}
+use Rattle.vg_model.specs.Count.{node_count, error_count, interface_count}
+use Rattle.vg_capture.specs.declared.captures.Captured.{Captured}
+use Rattle.vg_report.specs.declared.reports.Report.{Report}
+use Rattle.vg_report.specs.declared.reports.PacketLine.{PacketLine}
+use Rattle.vg_walk.specs.declared.logs.Log.{Log}
+use Rattle.vg_walk.specs.Walks.{IsLogOf, IsEndIn, one_leg, only_leg}
 use Rattle.vgd.specs.Command.{plain_run}
-use Rattle.vgd.specs.Output.{last_graph, report_of, packet_line_of, choices_of}
-use Rattle.vgd.specs.Walk.{wire_graphs, one_leg, wire_end, outcome_of, walked, walks_from, journeys_over}
-use Rattle.vgd.specs.WireReport.{is_too_long, is_short, is_unknown, is_sent, wire_line, wire_nodes, wire_errors, wire_report}
-use Rattle.vgd.proofs.CountLemmas.{trace_of, node_sum, error_sum, interface_sum, sum_weighed}
+use Rattle.vgd.specs.Output.{report_of, node_errors, packet_line_of, choices_of}
+use Rattle.vgd.specs.Reports.{counted, errors_made, all_made, line_of_fate}
+use Rattle.vgd.proofs.CountLemmas.{made_entry}
 
--- the counts of a node, by the counts of ends
-node_by : (node : ℕ) (frames : List (List ℕ)) → node_count node (journeys_over frames)
-    ≡ count_by (λ m. m == node) (trace_of ends.TooLong) * count_by is_too_long (map wire_end frames)
-    + count_by (λ m. m == node) (trace_of ends.Short) * count_by is_short (map wire_end frames)
-    + count_by (λ m. m == node) (trace_of ends.UnknownType) * count_by is_unknown (map wire_end frames)
-    + count_by (λ m. m == node) (trace_of ends.Sent) * count_by is_sent (map wire_end frames)
-node_by node frames = node_sum node 0 frames ∙ sum_weighed (λ e. count_by (λ m. m == node) (trace_of e)) (map wire_end frames)
+-- what stands at a place of what is made of each number
+made_at : {X Y : Type 0} (f : ℕ → Y) (k : ℕ) (xs : List X) (i : ℕ) (d : Y) → i < length xs → slice_index_or (map (λ (numbered : ℕ × X). f numbered.0) (enumerate_from k xs)) i d ≡ f (k + i)
+made_at f k [] i d h = absurd (omega arith)
+made_at f k (x ∷ xs) zero d h = ap f (omega arith)
+made_at f k (x ∷ xs) (suc i) d h = made_at f (k + 1) xs i d (omega arith) ∙ ap f (omega arith)
 
--- the nodes' lines
-nodes_are : (frames : List (List ℕ)) → map (λ (n : ℕ × Node). (n.1.name, node_count n.0 (journeys_over frames))) (enumerate_from 0 (last_graph wire_graphs).nodes)
-    ≡ wire_nodes (count_by is_too_long (map wire_end frames)) (count_by is_short (map wire_end frames)) (count_by is_unknown (map wire_end frames)) (count_by is_sent (map wire_end frames))
-nodes_are frames =
-    let es : List WireEnd = map wire_end frames in
-    let js : List Journey = journeys_over frames in
-    let n0 : node_count 0 js ≡ count_by is_too_long es + count_by is_short es + count_by is_unknown es + count_by is_sent es = node_by 0 frames ∙ omega arith in
-    let n1 : node_count 1 js ≡ 0 = node_by 1 frames ∙ omega arith in
-    let n2 : node_count 2 js ≡ count_by is_short es + count_by is_unknown es + count_by is_sent es = node_by 2 frames ∙ omega arith in
-    let n3 : node_count 3 js ≡ 0 = node_by 3 frames ∙ omega arith in
-    let n4 : node_count 4 js ≡ 0 = node_by 4 frames ∙ omega arith in
-    let n5 : node_count 5 js ≡ 0 = node_by 5 frames ∙ omega arith in
-    let n6 : node_count 6 js ≡ 0 = node_by 6 frames ∙ omega arith in
-    let n7 : node_count 7 js ≡ count_by is_sent es = node_by 7 frames ∙ omega arith in
-    let n8 : node_count 8 js ≡ count_by is_too_long es + count_by is_short es + count_by is_unknown es = node_by 8 frames ∙ omega arith in
-    λ i.
-    (codes "pg-input", n0 i) ∷ (codes "handoff-dequeue", n1 i) ∷ (codes "ethernet-input", n2 i) ∷ (codes "ip4-input", n3 i) ∷ (codes "ip4-lookup", n4 i)
-    ∷ (codes "ip4-rewrite", n5 i) ∷ (codes "interface-output", n6 i) ∷ (codes "interface-tx", n7 i) ∷ (codes "error-drop", n8 i) ∷ []
+-- counts by name, from a number on
+counted_from : {X : Type 0} (name_of : X → List ℕ) (count : ℕ → ℕ) (counts : List ℕ) (k : ℕ) (xs : List X) → ((i : ℕ) → i < length xs → slice_index counts (k + i) ≡ count (k + i))
+    → map {B = List ℕ × ℕ} (λ (numbered : ℕ × X). (name_of numbered.1, slice_index counts numbered.0)) (enumerate_from k xs)
+    ≡ map (λ (numbered : ℕ × X). (name_of numbered.1, count numbered.0)) (enumerate_from k xs)
+counted_from name_of count counts k [] h = refl
+counted_from {X} name_of count counts k (x ∷ xs) h =
+    let here : slice_index counts k ≡ count k = subst (λ n. slice_index counts n ≡ count n) (omega arith) (h 0 (omega arith)) in
+    let later = counted_from name_of count counts (k + 1) xs
+    (λ i within. subst (λ n. slice_index counts n ≡ count n) (omega arith) (h (suc i) (omega arith))) in
+    λ i. (name_of x, here i) ∷ later i
 
--- the interface's line
-interface_is : (frames : List (List ℕ)) → interface_count 0 (journeys_over frames) ≡ count_by is_sent (map wire_end frames)
-interface_is frames =
-    interface_sum 0 0 frames ∙ sum_weighed (λ e. cond (is_sent_on 0 (end_of (outcome_of e))) 1 0) (map wire_end frames) ∙ omega arith
+-- counts by name, where they are counts by number
+pub counted_are : {X : Type 0} (name_of : X → List ℕ) (count : ℕ → ℕ) (xs : List X) (counts : List ℕ) → counts ≡ map (λ (numbered : ℕ × X). count numbered.0) (enumerate_from 0 xs)
+    → counted name_of xs counts ≡ map (λ (numbered : ℕ × X). (name_of numbered.1, count numbered.0)) (enumerate_from 0 xs)
+counted_are name_of count xs counts e =
+    counted_from name_of count counts 0 xs (λ i within. ap (λ c. slice_index c (0 + i)) e ∙ (ap (slice_index (map (λ n. count n.0) (enumerate_from 0 xs))) (omega arith) ∙ made_at count 0 xs i 0 within))
 
--- how often a node made an error, by the counts of ends
-abbrev pub errors_by : (too_long short unknown : ℕ) → ℕ → DropError → ℕ
-errors_by too_long short unknown node error =
-    cond (is_drop node error (fate_ends.Dropped 0 errors.TooLong)) too_long
-    (cond (is_drop node error (fate_ends.Dropped 2 errors.Short)) short
-    (cond (is_drop node error (fate_ends.Dropped 2 errors.UnknownType)) unknown 0))
+-- errors with how often each was made
+made_row : (name : List ℕ) (count : DropError → ℕ) (errors : List DropError)
+    → map (made_entry name) (zip errors (map count errors)) ≡ map {B = List ℕ × DropError × ℕ} (λ error. (name, error, count error)) errors
+made_row name count [] = refl
+made_row name count (error ∷ errors) = ap (λ l. (name, error, count error) ∷ l) (made_row name count errors)
 
--- at most one of three tests holds
-pick : (a b c : Bool) (t s u x : ℕ) → (a && b) ≡ false → (a && c) ≡ false → (b && c) ≡ false
-    → cond a 1 0 * t + cond b 1 0 * s + cond c 1 0 * u + 0 * x ≡ cond a t (cond b s (cond c u 0))
-pick true true c t s u x h i j = absurd (true≢false h)
-pick true false true t s u x h i j = absurd (true≢false i)
-pick true false false t s u x h i j = omega arith
-pick false true true t s u x h i j = absurd (true≢false j)
-pick false true false t s u x h i j = omega arith
-pick false false true t s u x h i j = omega arith
-pick false false false t s u x h i j = omega arith
+-- those that were made
+abbrev made_of : List (List ℕ × DropError × ℕ) → List (List ℕ × DropError × ℕ)
+made_of entries = filter (λ (entry : List ℕ × DropError × ℕ). nat_lt 0 entry.2) entries
 
--- a node isn't two nodes, and an error isn't two errors
-apart : (node k : ℕ) → (((0 == node) && (1 == k)) && ((2 == node) && (0 == k))) ≡ false
-apart node k = grind (arith, nat_tests)
+-- the errors of nodes, from a number on
+errors_from : (errors : List DropError) (count : ℕ → DropError → ℕ) (counts : List (List ℕ)) (k : ℕ) (nodes : List Node)
+    → ((i : ℕ) → i < length nodes → slice_index_or counts (k + i) [] ≡ map (count (k + i)) errors)
+    → flat_map (λ (numbered : ℕ × Node). made_of (map (made_entry numbered.1.name) (zip errors (slice_index_or counts numbered.0 [])))) (enumerate_from k nodes)
+    ≡ flat_map (λ (numbered : ℕ × Node). made_of (map {B = List ℕ × DropError × ℕ} (λ error. (numbered.1.name, error, count numbered.0 error)) errors)) (enumerate_from k nodes)
+errors_from errors count counts k [] h = refl
+errors_from errors count counts k (node ∷ nodes) h =
+    let here : slice_index_or counts k [] ≡ map (count k) errors = subst (λ n. slice_index_or counts n [] ≡ map (count n) errors) (omega arith) (h 0 (omega arith)) in
+    let one = ap (λ row. made_of (map (made_entry node.name) (zip errors row))) here ∙ ap made_of (made_row node.name (count k) errors) in
+    let later = errors_from errors count counts (k + 1) nodes
+    (λ i within. subst (λ n. slice_index_or counts n [] ≡ map (count n) errors) (omega arith) (h (suc i) (omega arith))) in
+    λ i. one i ++ later i
 
-apart_2 : (node k : ℕ) → (((0 == node) && (1 == k)) && ((2 == node) && (2 == k))) ≡ false
-apart_2 node k = grind (arith, nat_tests)
+errors_are : (js : List Journey) (nodes : List Node) (counts : List (List ℕ)) → counts ≡ map (λ (n : ℕ × Node). map (λ error. error_count n.0 error js) all_errors) (enumerate_from 0 nodes)
+    → all_made nodes counts ≡ flat_map (node_errors js) (enumerate_from 0 nodes)
+errors_are js nodes counts e =
+    errors_from all_errors (λ n error. error_count n error js) counts 0 nodes
+    (λ i within. ap (λ c. slice_index_or c (0 + i) []) e
+    ∙ (ap (λ n. slice_index_or (map (λ (n : ℕ × Node). map (λ error. error_count n.0 error js) all_errors) (enumerate_from 0 nodes)) n []) (omega arith)
+    ∙ made_at (λ n. map (λ error. error_count n error js) all_errors) 0 nodes i [] within))
 
-apart_3 : (node k : ℕ) → (((2 == node) && (0 == k)) && ((2 == node) && (2 == k))) ≡ false
-apart_3 node k = grind (arith, nat_tests)
+-- the lines of packets
+lines_are : (g : Graph) (js : List Journey) → map (line_of_fate g) (map fate_of js) ≡ map (packet_line_of g) js
+lines_are g [] = refl
+lines_are g (j ∷ js) = ap (λ l. packet_line_of g j ∷ l) (lines_are g js)
 
-errors_are : (node : ℕ) (error : DropError) (frames : List (List ℕ)) → error_count node error (journeys_over frames)
-    ≡ errors_by (count_by is_too_long (map wire_end frames)) (count_by is_short (map wire_end frames)) (count_by is_unknown (map wire_end frames)) node error
-errors_are node error frames =
-    error_sum node error 0 frames ∙ sum_weighed (λ e. cond (is_drop node error (end_of (outcome_of e))) 1 0) (map wire_end frames)
-    ∙ pick ((0 == node) && (1 == error_number error)) ((2 == node) && (0 == error_number error)) ((2 == node) && (2 == error_number error)) _ _ _ (count_by is_sent (map wire_end frames))
-    (apart node (error_number error)) (apart_2 node (error_number error)) (apart_3 node (error_number error))
+-- the report, from its parts
+pub report_is : (g : Graph) (log : Log) (js : List Journey) → IsLogOf g js log → (capture script tx : List ℕ)
+    → ◌≡◌ {A = Report}
+    (record {
+      workers = 1;
+      buffers = 4096;
+      generations = 1;
+      interfaces = counted (λ interface. interface.name) g.interfaces log.counts.sends.items;
+      nodes = counted (λ node. node.name) g.nodes log.counts.visits.items;
+      errors = all_made g.nodes log.counts.drops.items;
+      packets = map (line_of_fate g) log.fates;
+      traces = [];
+    })
+    (report_of (plain_run capture script tx) (g ∷ []) js)
+report_is g log js is capture script tx =
+    let interfaces = counted_are (λ interface. interface.name) (λ n. interface_count n js) g.interfaces log.counts.sends.items is.counts.sends in
+    let nodes = counted_are (λ (node : Node). node.name) (λ n. node_count n js) g.nodes log.counts.visits.items is.counts.visits in
+    let errors = errors_are js g.nodes log.counts.drops.items is.counts.drops in
+    let packets = ap (map (line_of_fate g)) is.are_fates ∙ lines_are g js in
+    λ i. record {
+      workers = 1;
+      buffers = 4096;
+      generations = 1;
+      interfaces = interfaces i;
+      nodes = nodes i;
+      errors = errors i;
+      packets = packets i;
+      traces = [];
+    }
 
--- the errors' lines by any counts
-abbrev pub error_lines : (ℕ → DropError → ℕ) → List (List ℕ × DropError × ℕ)
-error_lines count =
-    flat_map (λ (numbered : ℕ × Node). filter (λ (entry : List ℕ × DropError × ℕ). nat_lt 0 entry.2)
-    (map {B = List ℕ × DropError × ℕ} (λ error. (numbered.1.name, error, count numbered.0 error)) all_errors))
-    (enumerate_from 0 (last_graph wire_graphs).nodes)
+-- there is a count for each entry
+counts_for : {X Y : Type 0} (f : ℕ × X → Y) (xs : List X) (counts : List Y) → counts ≡ map f (enumerate_from 0 xs) → length counts ≡ length xs
+counts_for f xs counts e = ap length e ∙ (length-map (enumerate_from 0 xs) f ∙ length-enumerate_from 0 xs)
 
--- at most one error of the one node and two of the other
-lines_joined : {X : Type 0} (x y z : X) (a b c : Bool) → cond a (x ∷ []) [] ++ (cond b (y ∷ cond c (z ∷ []) []) (cond c (z ∷ []) []) ++ [])
-    ≡ cond a (x ∷ cond b (y ∷ cond c (z ∷ []) []) (cond c (z ∷ []) [])) (cond b (y ∷ cond c (z ∷ []) []) (cond c (z ∷ []) []))
-lines_joined x y z true true true = refl
-lines_joined x y z true true false = refl
-lines_joined x y z true false true = refl
-lines_joined x y z true false false = refl
-lines_joined x y z false true true = refl
-lines_joined x y z false true false = refl
-lines_joined x y z false false true = refl
-lines_joined x y z false false false = refl
+pub send_for_each : (g : Graph) (log : Log) (js : List Journey) → IsLogOf g js log → length log.counts.sends.items ≡ length g.interfaces
+send_for_each g log js is = counts_for _ g.interfaces log.counts.sends.items is.counts.sends
 
-lines_by : (t s u : ℕ) → error_lines (errors_by t s u) ≡ wire_errors t s u
-lines_by t s u =
-    lines_joined {X = List ℕ × DropError × ℕ} (codes "pg-input", errors.TooLong, t) (codes "ethernet-input", errors.Short, s) (codes "ethernet-input", errors.UnknownType, u)
-    (nat_lt 0 t) (nat_lt 0 s) (nat_lt 0 u)
+pub visit_for_each : (g : Graph) (log : Log) (js : List Journey) → IsLogOf g js log → length log.counts.visits.items ≡ length g.nodes
+visit_for_each g log js is = counts_for _ g.nodes log.counts.visits.items is.counts.visits
 
-error_lines_are : (frames : List (List ℕ)) → error_lines (λ node error. error_count node error (journeys_over frames))
-    ≡ wire_errors (count_by is_too_long (map wire_end frames)) (count_by is_short (map wire_end frames)) (count_by is_unknown (map wire_end frames))
-error_lines_are frames =
-    (λ i. error_lines (λ node error. errors_are node error frames i))
-    ∙ lines_by (count_by is_too_long (map wire_end frames)) (count_by is_short (map wire_end frames)) (count_by is_unknown (map wire_end frames))
+pub drops_for_each : (g : Graph) (log : Log) (js : List Journey) → IsLogOf g js log → length log.counts.drops.items ≡ length g.nodes
+drops_for_each g log js is = counts_for _ g.nodes log.counts.drops.items is.counts.drops
 
--- the packets' lines
-line_is : (number : ℕ) (frame : List ℕ) (e : WireEnd) → packet_line_of (last_graph wire_graphs) (walked number frame e) ≡ wire_line e
-line_is number frame ends.TooLong = refl
-line_is number frame ends.Short = refl
-line_is number frame ends.UnknownType = refl
-line_is number frame ends.Sent = refl
-
-lines_are : (number : ℕ) (frames : List (List ℕ)) → map (packet_line_of (last_graph wire_graphs)) (walks_from number frames) ≡ map wire_line (map wire_end frames)
-lines_are number [] = refl
-lines_are number (frame ∷ frames) = λ i. line_is number frame (wire_end frame) i ∷ lines_are (suc number) frames i
-
--- the report of the journeys
-pub report_is : (capture script tx : List ℕ) (frames : List (List ℕ))
-    → report_of (plain_run capture script tx) wire_graphs (journeys_over frames) ≡ wire_report (map wire_end frames)
-report_is capture script tx frames = λ i. record {
-  workers = 1;
-  buffers = 4096;
-  generations = 1;
-  interfaces = (codes "pg0", interface_is frames i) ∷ [];
-  nodes = nodes_are frames i;
-  errors = error_lines_are frames i;
-  packets = lines_are 0 frames i;
-  traces = [];
-}
-
--- the choices that the report names
-pub choices_are : (frames : List (List ℕ)) → choices_of (wire_report (map wire_end frames)) ≡ map (λ _. one_leg) frames
-choices_are frames = all frames
+-- each fate ends in the graph
+pub fates_end : (g : Graph) (log : Log) (js : List Journey) → IsLogOf g js log → AllByRecursion (λ (fate : Fate). IsEndIn g fate.end) log.fates
+fates_end g log js is = subst (AllByRecursion (λ (fate : Fate). IsEndIn g fate.end)) (sym is.are_fates) (each js is.ends)
   where
-    all : (fs : List (List ℕ)) → map {B = Choice} (λ p. record { generations = map (λ leg. leg.generation) p.legs; accepted = p.congested }) (map wire_line (map wire_end fs)) ≡ map (λ _. one_leg) fs
-    all [] = refl
-    all (f ∷ fs) = ap (λ cs. one_leg ∷ cs) (all fs)
+    each : (js : List Journey) → AllByRecursion (λ (j : Journey). IsEndIn g (end_of j.course.outcome)) js → AllByRecursion (λ (fate : Fate). IsEndIn g fate.end) (map fate_of js)
+    each [] all = tt
+    each (j ∷ js) all = (all.0, each js all.1)
+
+-- the choices that the packets' lines name
+pub choices_are : (g : Graph) (js : List Journey) (packets : List Captured) → AllByRecursion (λ (j : Journey). (j.accepted ≡ None) × (j.course.legs ≡ only_leg ∷ [])) js
+    → length js ≡ length packets
+    → map {B = Choice} (λ (p : PacketLine). record { generations = map (λ (leg : Leg). leg.generation) p.legs; accepted = p.congested }) (map (packet_line_of g) js) ≡ map (λ p. one_leg) packets
+choices_are g [] [] all e = refl
+choices_are g [] (p ∷ packets) all e = absurd (omega arith)
+choices_are g (j ∷ js) [] all e = absurd (omega arith)
+choices_are g (j ∷ js) (p ∷ packets) all e =
+    let later = choices_are g js packets all.1 (omega arith) in
+    λ i. record { generations = map (λ (leg : Leg). leg.generation) (all.0.1 i); accepted = all.0.0 i } ∷ later i

@@ -1,59 +1,91 @@
 -- From what the steps of a run found to what is due.
-use Rattle.std.proofs.Common.{◌≡◌, ℕ, ◌+◌, ◌<◌, ◌⊎◌, List, [], ◌∷◌, ◌++◌, length, map, take, refl, sym, ap, subst, ◌∙◌, inl, inr, arith, false}
-use Rattle.std.specs.Prelude.{Option, Some, None, IfSome, IsSomeAnd, Result, Ok, Err, IfOk, bytes_eq}
+use Rattle.std.proofs.Common.{◌≡◌, ℕ, ◌+◌, ◌<◌, ◌⊎◌, List, [], ◌∷◌, length, map, take, refl, sym, ap, subst, ◌∙◌, inl, inr, arith}
+use Rattle.std.specs.Prelude.{Option, Some, None, IfSome, IsSomeAnd, Result, Ok, Err, IfOk, if◌then◌else◌}
 use Rattle.std.specs.Borrow.{Bor}
-use Rattle.vg_model.specs.declared.Memory.{Memory}
-use Rattle.vgd.specs.declared.run.Due.{Due}
-use Rattle.std.proofs.lemmas.Bool.{cases_lt, false_from_ne_true}
+use Rattle.std.specs.List.{AllByRecursion}
+use Rattle.std.proofs.lemmas.Bool.{cases_lt, lt-ltb}
 use Rattle.std.proofs.lemmas.List.{take_all, length-take-le}
-use Rattle.std.proofs.lemmas.Slice.Eq.{bytes_eq-Decides}
-use Rattle.vg_outside.specs.Files.{Files, file, Rose, FirstBytes, FailedLoad, HoldsBytes, SameElsewhere}
-use Rattle.vg_capture.specs.Savefile.{capture_of, largest_file}
-use Rattle.vg_capture.proofs.LimitLemmas.{capture_of-take}
-use Rattle.vgd.specs.declared.refusals.Refusal.{Refusal}
-use Rattle.vgd.specs.declared.refusals.Refusal.TheVariants as refusals
-use Rattle.vgd.specs.Command.{Run, command}
-use Rattle.vgd.specs.WireScript.{edits_of, wire_text, wire_edits, largest_script}
-use Rattle.vgd.specs.Run.{Call, AreLoaded, AreAccepted, AreFirstBytes, IsLoadedNext, IsRefused, IsDue, status_of, line_of}
-use Rattle.vgd.specs.Stops.{OnRefusal, IsLoadOf, IsRefusedFor, AreRead}
-use Rattle.vgd.specs.declared.refusals.Stop.{Stop}
-use Rattle.vgd.specs.declared.refusals.Stop.TheVariants as stops
-use Rattle.vgd.specs.Dues.{IsDueFor}
+use Rattle.vg_model.specs.declared.Memory.{Memory}
+use Rattle.vg_model.specs.declared.fates.Leg.{Leg}
+use Rattle.vg_model.specs.Graph.{Graph}
 use Rattle.vg_model.specs.Visit.{ip4_visit}
+use Rattle.vg_model.specs.Journey.{Journey, journeys}
+use Rattle.vg_model.specs.Lawful.{StartsAt, IsRefusalLawful, AreLawfulChoices}
+use Rattle.vg_outside.specs.Files.{Files, file, Rose, FirstBytes, FailedLoad, HoldsBytes, SameElsewhere}
 use Rattle.vg_capture.specs.declared.captures.Capture.{Capture}
-use Rattle.vg_model.specs.Lawful.{AreLawfulChoices}
-use Rattle.vg_capture.specs.declared.captures.Captured.{Captured}
-use Rattle.vg_capture.specs.declared.captures.Sent.{Sent}
+use Rattle.vg_capture.specs.Savefile.{capture_of, largest_file, savefile, pairs}
+use Rattle.vg_capture.proofs.LimitLemmas.{capture_of-take}
+use Rattle.vg_script.specs.declared.errors.ScriptError.{ScriptError}
+use Rattle.vg_script.specs.declared.errors.ScriptCause.TheVariants as causes
+use Rattle.vg_script.specs.declared.scripts.Script.{Script}
+use Rattle.vg_script.specs.Lines.{lines}
+use Rattle.vg_script.specs.Reading.{script_of, script_of_lines, refused, largest_script}
+use Rattle.vg_fib.specs.Table.{Routes}
 use Rattle.vg_report.specs.declared.reports.Report.{Report}
 use Rattle.vg_report.specs.Text.{text}
-use Rattle.vg_capture.specs.Savefile.{savefile, pairs}
-use Rattle.vgd.specs.declared.walking.WireEnd.{WireEnd}
-use Rattle.vgd.specs.Command.{plain_run}
-use Rattle.vgd.specs.Output.{IsOutput, frames_of, choices_of}
-use Rattle.vgd.specs.Walk.{wire_graphs, one_leg, wire_end, journeys_over, IsLogOf}
-use Rattle.vgd.specs.WireReport.{wire_report}
-use Rattle.vgd.proofs.WalkLemmas.{walks_are, wire_generations}
-use Rattle.vgd.proofs.ReportLemmas.{report_is, choices_are}
+use Rattle.vg_walk.specs.declared.logs.Log.{Log}
+use Rattle.vg_walk.specs.Walks.{with_routes, one_leg, only_leg, frames, IsLogOf}
+use Rattle.vgd.specs.declared.reading.Input.{Input}
+use Rattle.vgd.specs.declared.refusals.Refusal.{Refusal}
+use Rattle.vgd.specs.declared.refusals.Refusal.TheVariants as refusals
+use Rattle.vgd.specs.declared.refusals.Stop.{Stop}
+use Rattle.vgd.specs.declared.refusals.Stop.TheVariants as stops
+use Rattle.vgd.specs.declared.run.Due.{Due}
+use Rattle.vgd.specs.Command.{Run, command, plain_run}
+use Rattle.vgd.specs.Plan.{planned, graphs_of}
+use Rattle.vgd.specs.Run.{Call, AreLoaded, AreAccepted, AreFirstBytes, IsLoadedNext, IsRefused, IsDue, status_of, line_of}
+use Rattle.vgd.specs.Stops.{OnRefusal, IsLoadOf, IsRefusedFor, AreRead}
+use Rattle.vgd.specs.Dues.{IsDueFor}
+use Rattle.vgd.specs.Output.{IsOutput, report_of, choices_of}
+use Rattle.vgd.proofs.ReportLemmas.{choices_are}
+use Rattle.vgd.proofs.CongestionLemmas.{own_journeys}
 
--- the ends of the frames of packets
-map_twice : (packets : List Captured) → map wire_end (map (λ (p : Captured). p.bytes) packets) ≡ map (λ (p : Captured). wire_end p.bytes) packets
-map_twice [] = refl
-map_twice (p ∷ ps) = ap (λ es. wire_end p.bytes ∷ es) (map_twice ps)
+-- the log of a graph's lists is that of the whole graph
+pub log_of : (g : Graph) (routes : Routes) (log : Log) (js : List Journey) → IsLogOf (with_routes g routes) js log → IsLogOf g js log
+log_of g routes log js is = record {
+  are_fates = is.are_fates;
+  are_sent = is.are_sent;
+  counts = record { visits = is.counts.visits; drops = is.counts.drops; sends = is.counts.sends; small = is.counts.small };
+  legs = is.legs;
+  ends = is.ends;
+}
+
+-- the report by a graph's lists is that by the whole graph
+pub reported_whole : (g whole : Graph) (routes : Routes) (log : Log) (js : List Journey) (report : Report) → with_routes g routes ≡ whole → IsLogOf whole js log
+    → ((js : List Journey) → IsLogOf g js log → (capture script tx : List ℕ) → report ≡ report_of (plain_run capture script tx) (g ∷ []) js)
+    → (capture script tx : List ℕ) → report ≡ report_of (plain_run capture script tx) (whole ∷ []) js
+reported_whole g whole routes log js report seen logged reported capture script tx =
+    reported js (log_of g routes log js (subst (λ h. IsLogOf h js log) (sym seen) logged)) capture script tx
+    ∙ ap (λ h. report_of (plain_run capture script tx) (h ∷ []) js) seen
+
+-- the choices behind journeys of one leg that no queue refused are lawful
+starts_at : (js : List Journey) → AllByRecursion (λ (j : Journey). (j.accepted ≡ None) × (j.course.legs ≡ only_leg ∷ [])) js
+    → AllByRecursion (λ (j : Journey). StartsAt 1 0 (map (λ (leg : Leg). leg.generation) j.course.legs)) js
+starts_at [] all = tt
+starts_at (j ∷ js) all =
+    (subst (λ (legs : List Leg). StartsAt 1 0 (map (λ (leg : Leg). leg.generation) legs)) (sym all.0.1) (refl, (omega arith, omega arith, tt)), starts_at js all.1)
+
+no_refusals : (slots : ℕ) (js all_js : List Journey) → AllByRecursion (λ (j : Journey). (j.accepted ≡ None) × (j.course.legs ≡ only_leg ∷ [])) js
+    → AllByRecursion (λ (j : Journey). IsRefusalLawful slots all_js j j.accepted j.course.outcome) js
+no_refusals slots [] all_js all = tt
+no_refusals slots (j ∷ js) all_js all = (subst (λ o. IsRefusalLawful slots all_js j o j.course.outcome) (sym all.0.0) tt, no_refusals slots js all_js all.1)
 
 -- the savefile and the report of the log are the run's
-pub output_is : (capture : Capture) (ends_so_far : List WireEnd) (sent_so_far : List Sent) (report : Report) (tx : List ℕ) → IsLogOf capture.packets ends_so_far sent_so_far
-    → report ≡ wire_report ends_so_far → tx ≡ savefile capture (pairs sent_so_far) → (capture_name script_name tx_name : List ℕ)
-    → IsOutput ip4_visit wire_graphs (λ i. 0) (plain_run capture_name script_name tx_name) capture report tx
-output_is capture ends_so_far sent_so_far report tx log reported is capture_name script_name tx_name =
-    let frames : List (List ℕ) = frames_of capture in
-    let ends_are : ends_so_far ≡ map wire_end frames = log.are_ends ∙ sym (map_twice capture.packets) in
-    let report_by : report ≡ wire_report (map wire_end frames) = reported ∙ ap wire_report ends_are in
-    let choices : choices_of report ≡ map (λ _. one_leg) frames = ap choices_of report_by ∙ choices_are frames in
+pub output_is : (g : Graph) (capture : Capture) (log : Log) (js : List Journey) (report : Report) (tx : List ℕ)
+    → journeys ip4_visit (g ∷ []) 1 (frames capture.packets) (map (λ p. one_leg) capture.packets) ≡ Some js → IsLogOf g js log
+    → ((capture_name script_name tx_name : List ℕ) → report ≡ report_of (plain_run capture_name script_name tx_name) (g ∷ []) js) → tx ≡ savefile capture (pairs log.sent.items)
+    → (capture_name script_name tx_name : List ℕ) → IsOutput ip4_visit (g ∷ []) (λ i. 0) (plain_run capture_name script_name tx_name) capture report tx
+output_is g capture log js report tx are_journeys logged reported is capture_name script_name tx_name =
+    let count = (own_journeys g 0 capture.packets js are_journeys).1 in
+    let choices : choices_of report ≡ map (λ p. one_leg) capture.packets =
+    ap choices_of (reported capture_name script_name tx_name) ∙ choices_are g js capture.packets logged.legs count in
+    let lawful : AreLawfulChoices ip4_visit (g ∷ []) 1 64 (λ i. 0) (frames capture.packets) (map (λ p. one_leg) capture.packets) js =
+    record { are_journeys = are_journeys; lawful = record { generations = starts_at js logged.legs; refusals = no_refusals 64 js js logged.legs } } in
     record {
-      js = journeys_over frames;
-      lawful = subst (λ cs. AreLawfulChoices ip4_visit wire_graphs 1 64 (λ i. 0) frames cs (journeys_over frames)) (sym choices) (walks_are 64 frames);
-      reported = report_by ∙ sym (report_is capture_name script_name tx_name frames);
-      saved = is ∙ ap (savefile capture) log.are_sent;
+      js = js;
+      lawful = subst (λ cs. AreLawfulChoices ip4_visit (g ∷ []) 1 64 (λ i. 0) (frames capture.packets) cs js) (sym choices) lawful;
+      reported = reported capture_name script_name tx_name;
+      saved = is ∙ ap (savefile capture) logged.are_sent;
     }
 
 -- what is there and has a property
@@ -72,20 +104,19 @@ same_capture : (all bytes : List ℕ) → (all ≡ bytes) ⊎ (bytes ≡ take (l
 same_capture all bytes (inl e) = ap capture_of (sym e)
 same_capture all bytes (inr e) = ap capture_of e ∙ capture_of-take all (largest_file + 1) (omega arith)
 
--- a text of another length is not that text
-other_length : (xs ys : List ℕ) → length ys < length xs → bytes_eq xs ys ≡ false
-other_length xs ys h = false_from_ne_true _ (λ e. let same : length xs ≡ length ys = ap length ((bytes_eq-Decides xs ys).0 e) in omega (arith, h, same))
+-- a script that is too long is refused, whatever it says
+long_script : (text : List ℕ) → largest_script < length text → script_of text ≡ refused 0 causes.TooLarge
+long_script text h = ap (λ b. if b then refused 0 causes.TooLarge else script_of_lines (lines text)) (lt-ltb largest_script (length text) h)
 
--- a script that is longer than both texts is not read
-long_script : (text : List ℕ) → largest_script < length text → edits_of text ≡ None
-long_script text h =
-    rw (other_length text wire_text (omega (arith, h)), other_length text (wire_text ++ 10 ∷ []) (omega (arith, h))) refl
+-- scripts that are read alike make the same graphs
+graphs_by_script : (one other : List ℕ) → script_of one ≡ script_of other → graphs_of one ≡ graphs_of other
+graphs_by_script one other e = ap (λ (r : Result Script ScriptError). elim r as (λ _. Result (List Graph) ScriptError) [ Ok script ↦ planned script.start | Err error ↦ Err error ]) e
 
 -- the first bytes of a script decide
-same_script : (all bytes : List ℕ) → (all ≡ bytes) ⊎ (bytes ≡ take (largest_script + 1) all) → edits_of bytes ≡ edits_of all
-same_script all bytes (inl e) = ap edits_of (sym e)
-same_script all bytes (inr e) = ap edits_of e ∙ elim (cases_lt (length all) (largest_script + 1)) [
-  | inl short ↦ ap edits_of (take_all (largest_script + 1) all (omega (arith, short)))
+same_script : (all bytes : List ℕ) → (all ≡ bytes) ⊎ (bytes ≡ take (largest_script + 1) all) → script_of bytes ≡ script_of all
+same_script all bytes (inl e) = ap script_of (sym e)
+same_script all bytes (inr e) = ap script_of e ∙ elim (cases_lt (length all) (largest_script + 1)) [
+  | inl short ↦ ap script_of (take_all (largest_script + 1) all (omega (arith, short)))
   | inr long ↦
       let cut : length (take (largest_script + 1) all) ≡ largest_script + 1 = length-take-le (largest_script + 1) all long in
       long_script (take (largest_script + 1) all) (omega (arith, cut)) ∙ sym (long_script all (omega (arith, long)))
@@ -97,7 +128,7 @@ pub record AreWhole (call : Call) (run : Run) (capture_bytes script_bytes : List
   pub whole_script : List ℕ
   pub loaded : AreLoaded call run whole_capture whole_script
   pub capture : capture_of capture_bytes ≡ capture_of whole_capture
-  pub script : edits_of script_bytes ≡ edits_of whole_script
+  pub script : script_of script_bytes ≡ script_of whole_script
 
 pub loaded_whole : (call : Call) (run : Run) (capture_bytes script_bytes : List ℕ) → command call.words ≡ Some run
     → AreFirstBytes call.files run.capture run.script capture_bytes script_bytes → AreWhole call run capture_bytes script_bytes
@@ -119,7 +150,7 @@ pub refused_load : (call : Call) (run : Run) (refusal : Refusal) → command cal
 refused_load call run refusals.Usage is h same = absurd h
 refused_load call run (refusals.Load name) is h same = (record { run = run; is_command = is; named = h.0; fault = h.1 }, same)
 refused_load call run (refusals.Capture fault) is h same = absurd h
-refused_load call run refusals.Script is h same = absurd h
+refused_load call run (refusals.Script error) is h same = absurd h
 refused_load call run (refusals.Save name) is h same = absurd h
 
 -- the capture or the script is refused
@@ -131,7 +162,7 @@ refused_read call run capture_bytes script_bytes (refusals.Load name) is first h
 refused_read call run capture_bytes script_bytes (refusals.Capture fault) is first h same =
     let w = loaded_whole call run capture_bytes script_bytes is first in
     (record { run = run; capture_bytes = w.whole_capture; script_bytes = w.whole_script; loaded = w.loaded; is_fault = sym w.capture ∙ h.0; no_memory = h.1 }, same)
-refused_read call run capture_bytes script_bytes refusals.Script is first h same =
+refused_read call run capture_bytes script_bytes (refusals.Script error) is first h same =
     let w = loaded_whole call run capture_bytes script_bytes is first in (
       record {
         run = run;
@@ -140,24 +171,27 @@ refused_read call run capture_bytes script_bytes refusals.Script is first h same
         script_bytes = w.whole_script;
         loaded = w.loaded;
         is_capture = sym w.capture ∙ h.0.1;
-        is_fault = sym w.script ∙ h.1;
+        is_fault = sym (graphs_by_script script_bytes w.whole_script w.script) ∙ h.1;
       },
       same,
     )
 refused_read call run capture_bytes script_bytes (refusals.Save name) is first h same = absurd h
 
 -- both are accepted
-pub accepted_read : (call : Call) (run : Run) (capture_bytes script_bytes : List ℕ) (capture : Capture) → command call.words ≡ Some run
-    → AreFirstBytes call.files run.capture run.script capture_bytes script_bytes → AreRead capture_bytes script_bytes capture
-    → AreAccepted call run capture wire_edits
-accepted_read call run capture_bytes script_bytes capture is first h =
+pub accepted_read : (call : Call) (run : Run) (capture_bytes script_bytes : List ℕ) (input : Input) → command call.words ≡ Some run
+    → AreFirstBytes call.files run.capture run.script capture_bytes script_bytes → AreRead capture_bytes script_bytes input
+    → AreAccepted call run input.capture (input.router ∷ [])
+accepted_read call run capture_bytes script_bytes input is first h =
     let w = loaded_whole call run capture_bytes script_bytes is first in
     record {
       capture_bytes = w.whole_capture;
       script_bytes = w.whole_script;
+      script = h.makes.script;
       loaded = w.loaded;
       is_capture = sym w.capture ∙ h.is_capture;
-      is_script = sym w.script ∙ h.is_script;
+      is_script = sym w.script ∙ h.makes.is_script;
+      no_blocks = h.makes.no_blocks;
+      are_graphs = h.makes.are_graphs;
     }
 
 -- a refusal is due, with its status and its line
@@ -174,21 +208,19 @@ stopped_due call (stops.Refused refusal) P (Ok due) d h f = inr (refusal, d.0, d
 stopped_due call stop P (Err e) d h f = tt
 
 -- the savefile was saved
-pub done_due : (call : Call) (capture_name script_name tx_name : List ℕ) (capture : Capture) (report : Report) (tx line : List ℕ)
-    → AreAccepted call (plain_run capture_name script_name tx_name) capture wire_edits
-    → IsOutput ip4_visit wire_graphs (λ i. 0) (plain_run capture_name script_name tx_name) capture report tx → line ≡ text report
+pub done_due : (call : Call) (capture_name script_name tx_name : List ℕ) (capture : Capture) (graphs : List Graph) (report : Report) (tx line : List ℕ)
+    → AreAccepted call (plain_run capture_name script_name tx_name) capture graphs
+    → IsOutput ip4_visit graphs (λ i. 0) (plain_run capture_name script_name tx_name) capture report tx → line ≡ text report
     → HoldsBytes call.files_after tx_name tx → SameElsewhere call.files call.files_after tx_name → IsDue call 0 line
-done_due call capture_name script_name tx_name capture report tx line accepted output printed saved others = inl (
+done_due call capture_name script_name tx_name capture graphs report tx line accepted output printed saved others = inl (
   refl,
   record {
     run = plain_run capture_name script_name tx_name;
     capture = capture;
-    edits = wire_edits;
-    graphs = wire_graphs;
+    graphs = graphs;
     report = report;
     tx = tx;
     accepted = accepted;
-    are_graphs = wire_generations;
     output = output;
     printed = printed;
     saved = saved;
@@ -197,13 +229,13 @@ done_due call capture_name script_name tx_name capture report tx line accepted o
 )
 
 -- the savefile couldn't be saved
-pub save_fault : (call : Call) (capture_name script_name tx_name : List ℕ) (name : Bor (List ℕ)) (capture : Capture) → name.now ≡ tx_name
-    → AreAccepted call (plain_run capture_name script_name tx_name) capture wire_edits
+pub save_fault : (call : Call) (capture_name script_name tx_name : List ℕ) (name : Bor (List ℕ)) (capture : Capture) (graphs : List Graph) → name.now ≡ tx_name
+    → AreAccepted call (plain_run capture_name script_name tx_name) capture graphs
     → Rose (call.faults name.now) (call.faults_after name.now) → SameElsewhere call.files call.files_after name.now → IsRefused call (refusals.Save name)
-save_fault call capture_name script_name tx_name name capture named accepted fault others = record {
+save_fault call capture_name script_name tx_name name capture graphs named accepted fault others = record {
   run = plain_run capture_name script_name tx_name;
   capture = capture;
-  edits = wire_edits;
+  graphs = graphs;
   accepted = accepted;
   named = named;
   fault = fault;

@@ -1,7 +1,6 @@
 -- What a run of the program answers and what it leaves behind.
 use Rattle.std.specs.Prelude.{◌≡◌, ◌≢◌, ◌⊎◌, ℕ, ◌<◌, ◌+◌, ◌++◌, List, [], ◌∷◌, length, take, codes, decimal, Option, Some, None, option_map, IfSome, IsSome, Ok, Err}
 use Rattle.std.specs.Borrow.{Bor}
-use Rattle.vg_model.specs.declared.edits.EditLine.{EditLine}
 use Rattle.vg_model.specs.Graph.{Graph}
 use Rattle.vg_model.specs.Generations.{generations}
 use Rattle.vg_model.specs.Visit.{ip4_visit}
@@ -10,12 +9,16 @@ use Rattle.vg_capture.specs.declared.captures.Capture.{Capture}
 use Rattle.vg_capture.specs.declared.errors.CaptureError.{CaptureError}
 use Rattle.vg_capture.specs.declared.errors.CaptureError.TheVariants as faults
 use Rattle.vg_capture.specs.Savefile.{capture_of, largest_file}
+use Rattle.vg_script.specs.declared.errors.ScriptError.{ScriptError}
+use Rattle.vg_script.specs.declared.scripts.Script.{Script}
+use Rattle.vg_script.specs.Causes.{cause_word}
+use Rattle.vg_script.specs.Reading.{script_of, largest_script}
 use Rattle.vg_report.specs.declared.reports.Report.{Report}
 use Rattle.vg_report.specs.Text.{text}
 use Rattle.vgd.specs.declared.refusals.Refusal.{Refusal}
 use Rattle.vgd.specs.declared.refusals.Refusal.TheVariants as refusals
 use Rattle.vgd.specs.Command.{Run, command, texts}
-use Rattle.vgd.specs.WireScript.{edits_of, largest_script}
+use Rattle.vgd.specs.Plan.{graphs_of}
 use Rattle.vgd.specs.Output.{IsOutput}
 
 -- a call: its words, and of the folder, before and after, its files where it tells them and how often calls on a name have failed
@@ -32,24 +35,26 @@ pub record AreLoaded (call : Call) (run : Run) (capture_bytes script_bytes : Lis
   pub capture_file : IfSome call.files (λ files. file files run.capture ≡ Some capture_bytes)
   pub script_file : IfSome call.files (λ files. file files run.script ≡ Some script_bytes)
 
--- the capture and the script were loaded and accepted: this capture, and the edits of this script
-pub record AreAccepted (call : Call) (run : Run) (capture : Capture) (edits : List EditLine) : Type 0 where
+-- the capture and the script were loaded and accepted: this capture, and the graphs of the script's edits before the first packet
+-- (no script that is read has blocks, whose edits would come later)
+pub record AreAccepted (call : Call) (run : Run) (capture : Capture) (graphs : List Graph) : Type 0 where
   pub capture_bytes : List ℕ
   pub script_bytes : List ℕ
+  pub script : Script
   pub loaded : AreLoaded call run capture_bytes script_bytes
   pub is_capture : capture_of capture_bytes ≡ Ok capture
-  pub is_script : edits_of script_bytes ≡ Some edits
+  pub is_script : script_of script_bytes ≡ Ok script
+  pub no_blocks : script.blocks ≡ []
+  pub are_graphs : generations script.start [] ≡ Ok graphs
 
 -- a run is done: the folder holds the savefile of the run, all its other files are as before, and this is the text of its report
 pub record IsDone (call : Call) (line : List ℕ) : Type 0 where
   pub run : Run
   pub capture : Capture
-  pub edits : List EditLine
   pub graphs : List Graph
   pub report : Report
   pub tx : List ℕ
-  pub accepted : AreAccepted call run capture edits
-  pub are_graphs : generations edits [] ≡ Ok graphs
+  pub accepted : AreAccepted call run capture graphs
   pub output : IsOutput ip4_visit graphs (λ i. 0) run capture report tx
   pub printed : line ≡ text report
   pub saved : HoldsBytes call.files_after run.tx tx
@@ -75,22 +80,22 @@ pub record IsCaptureFault (call : Call) (fault : CaptureError) : Type 0 where
   pub is_fault : capture_of capture_bytes ≡ Err fault
   pub no_memory : fault ≢ faults.Memory
 
--- the capture is accepted, and the script is not
-pub record IsScriptFault (call : Call) : Type 0 where
+-- the capture is accepted, and the script is not: this is its first faulty line, or the first of its edits that is refused
+pub record IsScriptFault (call : Call) (error : ScriptError) : Type 0 where
   pub run : Run
   pub capture : Capture
   pub capture_bytes : List ℕ
   pub script_bytes : List ℕ
   pub loaded : AreLoaded call run capture_bytes script_bytes
   pub is_capture : capture_of capture_bytes ≡ Ok capture
-  pub is_fault : edits_of script_bytes ≡ None
+  pub is_fault : graphs_of script_bytes ≡ Err error
 
 -- all was accepted, and the savefile couldn't be saved; the folder's other files are as before
 pub record IsSaveFault (call : Call) (name : List ℕ) : Type 0 where
   pub run : Run
   pub capture : Capture
-  pub edits : List EditLine
-  pub accepted : AreAccepted call run capture edits
+  pub graphs : List Graph
+  pub accepted : AreAccepted call run capture graphs
   pub named : name ≡ run.tx
   pub fault : Rose (call.faults name) (call.faults_after name)
   pub others : SameElsewhere call.files call.files_after name
@@ -100,7 +105,7 @@ abbrev pub IsRefused : Call → Refusal → Type 0
 IsRefused call refusals.Usage = (command call.words ≡ None) × (call.files_after ≡ call.files)
 IsRefused call (refusals.Load name) = IsLoadFault call name.now × (call.files_after ≡ call.files)
 IsRefused call (refusals.Capture fault) = IsCaptureFault call fault × (call.files_after ≡ call.files)
-IsRefused call refusals.Script = IsScriptFault call × (call.files_after ≡ call.files)
+IsRefused call (refusals.Script error) = IsScriptFault call error × (call.files_after ≡ call.files)
 IsRefused call (refusals.Save name) = IsSaveFault call name.now
 
 -- the status of a refusal
@@ -108,7 +113,7 @@ abbrev pub status_of : Refusal → ℕ
 status_of refusals.Usage = 2
 status_of (refusals.Load name) = 3
 status_of (refusals.Capture fault) = 4
-status_of refusals.Script = 5
+status_of (refusals.Script error) = 5
 status_of (refusals.Save name) = 6
 
 -- the words for a capture's fault: its cause and its place
@@ -122,12 +127,16 @@ capture_fault (faults.RecordTooLong offset) = codes "record-too-long " ++ decima
 capture_fault (faults.TooManyPackets offset) = codes "too-many-packets " ++ decimal offset
 capture_fault faults.Memory = codes "memory 0"
 
+-- the words for a script's fault: its line and its cause
+abbrev pub script_fault : ScriptError → List ℕ
+script_fault error = decimal error.line ++ 32 ∷ cause_word error.cause
+
 -- the line that is printed for a refusal, without its line feed
 abbrev pub words_of : Refusal → List ℕ
 words_of refusals.Usage = codes "usage"
 words_of (refusals.Load name) = codes "load " ++ name.now
 words_of (refusals.Capture fault) = codes "capture " ++ capture_fault fault
-words_of refusals.Script = codes "script 1 not-built"
+words_of (refusals.Script error) = codes "script " ++ script_fault error
 words_of (refusals.Save name) = codes "save " ++ name.now
 
 -- the line with its line feed

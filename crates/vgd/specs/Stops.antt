@@ -1,9 +1,10 @@
 -- Why a run stops before its end.
-use Rattle.std.specs.Prelude.{◌≡◌, ◌≢◌, ℕ, List, Some, None, Ok, Err}
+use Rattle.std.specs.Prelude.{◌≡◌, ◌≢◌, ℕ, List, Ok, Err}
 use Rattle.vg_capture.specs.declared.captures.Capture.{Capture}
 use Rattle.vg_capture.specs.declared.errors.CaptureError.TheVariants as faults
 use Rattle.vg_capture.specs.Savefile.{capture_of}
-use Rattle.vgd.specs.WireScript.{edits_of, wire_edits}
+use Rattle.vgd.specs.Plan.{graphs_of, MakesGraph}
+use Rattle.vgd.specs.declared.reading.Input.{Input}
 use Rattle.vgd.specs.declared.refusals.Refusal.{Refusal}
 use Rattle.vgd.specs.declared.refusals.Refusal.TheVariants as refusals
 use Rattle.vgd.specs.declared.refusals.Stop.{Stop}
@@ -19,18 +20,19 @@ abbrev pub IsLoadOf : (List ℕ → Type 0) → Refusal → Type 0
 IsLoadOf P refusals.Usage = ⊥
 IsLoadOf P (refusals.Load name) = P name.now
 IsLoadOf P (refusals.Capture fault) = ⊥
-IsLoadOf P refusals.Script = ⊥
+IsLoadOf P (refusals.Script error) = ⊥
 IsLoadOf P (refusals.Save name) = ⊥
 
--- these bytes are no savefile, or they are one and those bytes are no script that is read
+-- these bytes are no savefile, or they are one and those bytes are no script that makes a graph
 abbrev pub IsRefusedFor : List ℕ → List ℕ → Refusal → Type 0
 IsRefusedFor capture_bytes script_bytes refusals.Usage = ⊥
 IsRefusedFor capture_bytes script_bytes (refusals.Load name) = ⊥
 IsRefusedFor capture_bytes script_bytes (refusals.Capture fault) = (capture_of capture_bytes ≡ Err fault) × (fault ≢ faults.Memory)
-IsRefusedFor capture_bytes script_bytes refusals.Script = ((c : Capture) × (capture_of capture_bytes ≡ Ok c)) × (edits_of script_bytes ≡ None)
+IsRefusedFor capture_bytes script_bytes (refusals.Script error) =
+    ((c : Capture) × (capture_of capture_bytes ≡ Ok c)) × (graphs_of script_bytes ≡ Err error)
 IsRefusedFor capture_bytes script_bytes (refusals.Save name) = ⊥
 
--- both are accepted
-pub record AreRead (capture_bytes script_bytes : List ℕ) (capture : Capture) : Type 0 where
-  pub is_capture : capture_of capture_bytes ≡ Ok capture
-  pub is_script : edits_of script_bytes ≡ Some wire_edits
+-- both are accepted: this is the capture, and the script makes the router's graph
+pub record AreRead (capture_bytes script_bytes : List ℕ) (input : Input) : Type 0 where
+  pub is_capture : capture_of capture_bytes ≡ Ok input.capture
+  pub makes : MakesGraph script_bytes input.router

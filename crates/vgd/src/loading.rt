@@ -6,14 +6,10 @@ ghost use Rattle.vgd.specs.Stops.{OnRefusal, IsLoadOf};
 
 use crate::refusals::{Refusal, Stop};
 use crate::words::Run;
+use vg_capture::LARGEST_FILE;
 use vg_model::Bytes;
 use vg_outside::{Folder, LoadError};
-
-/// The greatest length of a capture, in bytes.
-pub const LARGEST_CAPTURE: usize = 16_777_216;
-
-/// The greatest length of a script, in bytes.
-pub const LARGEST_SCRIPT: usize = 262_144;
+use vg_script::LARGEST_SCRIPT;
 
 /// What a run reads: of each file at most one byte more than its greatest length.
 #[derive(Drop)]
@@ -45,7 +41,7 @@ pub fn load_files<'a, F: Folder>(folder: &mut F, run: &Run<'a>) -> Result<Files,
     ensures stop { IfErr result (OnRefusal (IsLoadOf (λ failed. IsLoadedNext (F.contents folder.old) run.now.capture.now run.now.script.now failed
         × FailedLoad (F.contents folder.old) failed (F.faults folder.old failed) (F.faults folder.new failed)))) }
 {
-    let capture = load_file(folder, run.capture, LARGEST_CAPTURE)?;
+    let capture = load_file(folder, run.capture, LARGEST_FILE)?;
     let script = load_file(folder, run.script, LARGEST_SCRIPT)?;
     Ok(Files { capture, script })
 }

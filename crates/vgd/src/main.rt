@@ -2,6 +2,7 @@
 #![tactic(auto)]
 
 pub mod loading;
+pub mod planning;
 pub mod printing;
 pub mod reading;
 pub mod refusals;
@@ -10,7 +11,6 @@ pub mod run;
 #[cfg(test)]
 mod tests;
 pub mod top;
-pub mod walking;
 pub mod words;
 
 use std::io::ErrorKind;

@@ -1,23 +1,33 @@
 //! What a run's files say.
-ghost use Rattle.std.specs.Prelude.{◌≡◌, IfOk, IfErr, IsTrue, ◌↔◌, Some, is_some};
-ghost use Rattle.vgd.specs.WireScript.{edits_of, wire_edits};
+ghost use Rattle.std.specs.Prelude.{IfOk, IfErr};
+ghost use Rattle.vgd.specs.Plan.{graphs_of, MakesGraph, IsRefusalOf};
 ghost use Rattle.vgd.specs.Stops.{OnRefusal, IsRefusedFor, AreRead};
 
 use crate::loading::Files;
+use crate::planning::{Router, plan};
 use crate::refusals::{Refusal, Stop};
 use std::alloc::Global;
 use vg_capture::{Capture, CaptureError, read_capture};
+use vg_script::{ScriptCause, ScriptError, parse_script};
 
-/// Whether this is the script that sends each IPv4 frame straight to the interface, the only one that is read so far.
-fn is_wire_script(text: &[u8]) -> bool
-    ensures { result ≡ is_some (edits_of text.now) }
+/// What a run's files say: the packets, and the router that they go through.
+#[derive(Drop)]
+pub struct Input {
+    pub capture: Capture,
+    pub router: Router,
+}
+
+/// The router that a script makes.
+fn read_script(alloc: Global, text: &[u8]) -> Result<Router, ScriptError>
+    ensures router { IfOk result (MakesGraph text.now) }
+    ensures refused { IfErr result (IsRefusalOf (graphs_of text.now)) }
 {
-    text == b"arc ethernet-input ip4 interface-tx".as_slice()
-        || text == b"arc ethernet-input ip4 interface-tx\n".as_slice()
+    let script = parse_script(alloc, text)?;
+    plan(alloc, &script.start)
 }
 
 /// Reads a run's files: the capture first, and then the script.
-pub fn read_files<'a>(alloc: Global, files: &Files) -> Result<Capture, Stop<'a>>
+pub fn read_files<'a>(alloc: Global, files: &Files) -> Result<Input, Stop<'a>>
     ensures read { IfOk result (AreRead files.now.capture files.now.script) }
     ensures stop { IfErr result (OnRefusal (IsRefusedFor files.now.capture files.now.script)) }
 {
@@ -26,8 +36,14 @@ pub fn read_files<'a>(alloc: Global, files: &Files) -> Result<Capture, Stop<'a>>
         Err(CaptureError::Memory) => return Err(Stop::Memory),
         Err(fault) => return Err(Stop::Refused(Refusal::Capture(fault))),
     };
-    if !is_wire_script(files.script.as_slice()) {
-        return Err(Stop::Refused(Refusal::Script));
+    match read_script(alloc, files.script.as_slice()) {
+        Ok(router) => Ok(Input { capture, router }),
+        Err(
+            ScriptError {
+                cause: ScriptCause::Memory,
+                ..
+            },
+        ) => Err(Stop::Memory),
+        Err(fault) => Err(Stop::Refused(Refusal::Script(fault))),
     }
-    Ok(capture)
 }

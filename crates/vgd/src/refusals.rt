@@ -1,9 +1,10 @@
 //! Why a run is refused.
-ghost use Rattle.std.specs.Prelude.{◌≡◌, IfOk, string_bytes};
-ghost use Rattle.vgd.specs.Run.{status_of, line_of, capture_fault};
+ghost use Rattle.std.specs.Prelude.{◌≡◌, [], ◌∷◌, ◌++◌, codes, decimal, IfOk, string_bytes};
+ghost use Rattle.vgd.specs.Run.{status_of, line_of, capture_fault, script_fault};
 
 use std::alloc::{AllocError, Global};
 use vg_capture::CaptureError;
+use vg_script::ScriptError;
 
 /// Why a run is refused, with the name of the file where it was one.
 #[derive(Clone, Copy, Debug)]
@@ -14,8 +15,8 @@ pub enum Refusal<'a> {
     Load(&'a str),
     /// The capture is no savefile that is read here.
     Capture(CaptureError),
-    /// The script is not read yet.
-    Script,
+    /// The script is not one that makes a graph.
+    Script(ScriptError),
     /// This file could not be saved.
     Save(&'a str),
 }
@@ -38,7 +39,7 @@ impl Refusal<'_> {
             Refusal::Usage => 2,
             Refusal::Load(_) => 3,
             Refusal::Capture(_) => 4,
-            Refusal::Script => 5,
+            Refusal::Script(_) => 5,
             Refusal::Save(_) => 6,
         }
     }
@@ -50,28 +51,42 @@ impl Refusal<'_> {
         match self {
             Refusal::Usage => String::from_str(alloc, "usage\n"),
             Refusal::Load(name) => format!(in alloc; "load {name}\n"),
-            Refusal::Capture(fault) => {
-                let fault = capture_words(alloc, fault)?;
-                format!(in alloc; "capture {fault}\n")
-            }
-            Refusal::Script => String::from_str(alloc, "script 1 not-built\n"),
+            Refusal::Capture(fault) => capture_line(alloc, *fault),
+            Refusal::Script(fault) => script_line(alloc, *fault),
             Refusal::Save(name) => format!(in alloc; "save {name}\n"),
         }
     }
 }
 
-/// A capture's fault by its cause and its place in the file.
-fn capture_words(alloc: Global, fault: &CaptureError) -> Result<String, AllocError>
-    ensures { IfOk result (λ words. string_bytes words ≡ capture_fault fault.now) }
+/// The line of a capture's fault: its cause and its place in the file.
+fn capture_line(alloc: Global, fault: CaptureError) -> Result<String, AllocError>
+    ensures { IfOk result (λ line. string_bytes line ≡ codes "capture " ++ capture_fault fault ++ 10 ∷ []) }
 {
     match fault {
-        CaptureError::TooLarge => String::from_str(alloc, "too-large 16777216"),
-        CaptureError::NotPcap => String::from_str(alloc, "not-pcap 0"),
-        CaptureError::Version { .. } => String::from_str(alloc, "version 4"),
-        CaptureError::LinkType(_) => String::from_str(alloc, "link-type 20"),
-        CaptureError::Truncated { offset } => format!(in alloc; "truncated {offset}"),
-        CaptureError::RecordTooLong { offset } => format!(in alloc; "record-too-long {offset}"),
-        CaptureError::TooManyPackets { offset } => format!(in alloc; "too-many-packets {offset}"),
-        CaptureError::Memory => String::from_str(alloc, "memory 0"),
+        CaptureError::TooLarge => String::from_str(alloc, "capture too-large 16777216\n"),
+        CaptureError::NotPcap => String::from_str(alloc, "capture not-pcap 0\n"),
+        CaptureError::Version { .. } => String::from_str(alloc, "capture version 4\n"),
+        CaptureError::LinkType(_) => String::from_str(alloc, "capture link-type 20\n"),
+        CaptureError::Truncated { offset } => format!(in alloc; "capture truncated {offset}\n"),
+        CaptureError::RecordTooLong { offset } => {
+            format!(in alloc; "capture record-too-long {offset}\n")
+        }
+        CaptureError::TooManyPackets { offset } => {
+            format!(in alloc; "capture too-many-packets {offset}\n")
+        }
+        CaptureError::Memory => String::from_str(alloc, "capture memory 0\n"),
     }
+}
+
+/// The line of a script's fault: the line of the script and the cause.
+fn script_line(alloc: Global, fault: ScriptError) -> Result<String, AllocError>
+    ensures { IfOk result (λ line. string_bytes line ≡ codes "script " ++ script_fault fault ++ 10 ∷ []) }
+{
+    line_and_cause(alloc, fault.line, fault.cause.word())
+}
+
+fn line_and_cause(alloc: Global, line: u32, cause: &str) -> Result<String, AllocError>
+    ensures { IfOk result (λ text. string_bytes text ≡ codes "script " ++ (decimal line ++ 32 ∷ cause.now) ++ 10 ∷ []) }
+{
+    format!(in alloc; "script {line} {cause}\n")
 }

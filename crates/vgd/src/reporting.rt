@@ -1,185 +1,165 @@
-//! The report of packets on the graph of the wire script.
-ghost use Rattle.std.specs.Prelude.{◌≡◌, ◌+◌, ◌≤◌, ◌^◌, ◌<◌, length, map, count_by, IfOk, IsTrue};
-ghost use Rattle.vgd.specs.WireReport.{is_too_long, is_short, is_unknown, is_sent, packet_end, wire_line, wire_nodes, wire_errors, wire_report};
-ghost use Rattle.vg_model.specs.Name.{is_name};
+//! The report of what became of packets.
+ghost use Rattle.std.specs.Prelude.{◌≡◌, [], ◌∷◌, ◌++◌, ℕ, List, length, map, IfOk, OnOk};
+ghost use Rattle.std.specs.List.{AllByRecursion};
+ghost use Rattle.vg_model.specs.Journey.{Journey};
+ghost use Rattle.vg_model.specs.Name.{IsName};
+ghost use Rattle.vg_walk.specs.Walks.{IsEndIn, IsLogOf};
+ghost use Rattle.vgd.specs.Command.{plain_run};
+ghost use Rattle.vgd.specs.Output.{named_end, report_of};
+ghost use Rattle.vgd.specs.Reports.{IsLog, counted, errors_made, all_made, line_of_fate};
 
-use crate::walking::WireEnd;
 use std::alloc::{AllocError, Global};
-use vg_model::{DropError, Leg, Legs, Name};
+use vg_graph::Graph;
+use vg_model::{DropError, End, Fate, Fates, Name};
 use vg_report::{ErrorCounts, NameCounts, PacketEnd, PacketLine, PacketLines, Report, TraceLines};
+use vg_walk::logs::ERRORS;
+use vg_walk::{Counts, Log};
 
-/// A name that is written here.
-fn name(text: &str) -> Name
-    requires { IsTrue (is_name text.now) }
-    ensures { result ≡ text.now }
+/// How many workers run.
+const WORKERS: u8 = 1;
+
+/// How many buffers a run starts with. There is no pool yet that could hold another number at the end.
+const BUFFERS: u32 = 4096;
+
+/// How many generations the graph has: scripts without blocks make one.
+const GENERATIONS: u32 = 1;
+
+/// The same name once more.
+fn copied(name: &Name) -> Name
+    ensures same { result ≡ name.now }
+    ensures name { IsName result }
 {
-    Name::of(text.as_bytes()).unwrap()
+    let _bytes = name.bytes();
+    name.clone().unwrap()
 }
 
-/// How many packets ended in each way.
-#[derive(Clone, Copy, Debug)]
-struct Tally {
-    too_long: u64,
-    short: u64,
-    unknown: u64,
-    sent: u64,
+/// The interfaces by number, each with the packets that were transmitted on it.
+fn interfaces(alloc: Global, graph: &Graph, sends: &[u64]) -> Result<NameCounts, AllocError>
+    requires { length sends.now ≡ length graph.now.interfaces }
+    ensures counts { IfOk result (λ counts. counts ≡ counted (λ interface. interface.name) graph.now.interfaces sends.now) }
+    ensures names { IfOk result (λ counts. AllByRecursion (λ entry. IsName entry.0) counts) }
+{
+    let mut counts = Vec::with_capacity(alloc, sends.len())?;
+    for n in 0..graph.interfaces() {
+        let name = copied(&graph.interface_at(n).name);
+        counts.push((name, sends[usize::from(n)]))?;
+    }
+    Ok(NameCounts::from_vec(counts))
 }
 
-impl Tally {
-    /// Counts the ends.
-    fn of(ends: &[WireEnd]) -> Tally
-        ensures too_long { result.too_long ≡ count_by is_too_long ends.now }
-        ensures short { result.short ≡ count_by is_short ends.now }
-        ensures unknown { result.unknown ≡ count_by is_unknown ends.now }
-        ensures sent { result.sent ≡ count_by is_sent ends.now }
-    {
-        Tally {
-            too_long: too_long(ends),
-            short: short(ends),
-            unknown: unknown(ends),
-            sent: sent(ends),
+/// The nodes by number, each with the visits of it.
+fn nodes(alloc: Global, graph: &Graph, visits: &[u64]) -> Result<NameCounts, AllocError>
+    requires { length visits.now ≡ length graph.now.nodes }
+    ensures counts { IfOk result (λ counts. counts ≡ counted (λ node. node.name) graph.now.nodes visits.now) }
+    ensures names { IfOk result (λ counts. AllByRecursion (λ entry. IsName entry.0) counts) }
+{
+    let mut counts = Vec::with_capacity(alloc, visits.len())?;
+    for n in 0..graph.nodes() {
+        counts.push((copied(graph.node_name(n)), visits[usize::from(n)]))?;
+    }
+    Ok(NameCounts::from_vec(counts))
+}
+
+/// The errors that a node made, in their order, behind those of the nodes before it.
+fn put_errors(
+    errors: &mut Vec<(Name, DropError, u64)>,
+    name: &Name,
+    drops: &[u64; ERRORS],
+) -> Result<(), AllocError>
+    ensures { OnOk result (errors.new.items ≡ errors.old.items ++ errors_made name.now drops.now) }
+{
+    for (place, error) in DropError::ALL.iter().enumerate() {
+        if drops[place] > 0 {
+            errors.push((copied(name), *error, drops[place]))?;
         }
     }
+    Ok(())
 }
 
-fn too_long(ends: &[WireEnd]) -> u64
-    ensures { result ≡ count_by is_too_long ends.now }
-{
-    ends.iter()
-        .filter(|end| matches!(end, WireEnd::TooLong))
-        .count() as u64
-}
-
-fn short(ends: &[WireEnd]) -> u64
-    ensures { result ≡ count_by is_short ends.now }
-{
-    ends.iter()
-        .filter(|end| matches!(end, WireEnd::Short))
-        .count() as u64
-}
-
-fn unknown(ends: &[WireEnd]) -> u64
-    ensures { result ≡ count_by is_unknown ends.now }
-{
-    ends.iter()
-        .filter(|end| matches!(end, WireEnd::UnknownType))
-        .count() as u64
-}
-
-fn sent(ends: &[WireEnd]) -> u64
-    ensures { result ≡ count_by is_sent ends.now }
-{
-    ends.iter()
-        .filter(|end| matches!(end, WireEnd::Sent))
-        .count() as u64
-}
-
-/// The nodes with their visits.
-fn nodes(alloc: Global, tally: Tally) -> Result<NameCounts, AllocError>
-    requires { tally.too_long + tally.short + tally.unknown + tally.sent ≤ 65536 }
-    ensures { IfOk result (λ nodes. nodes ≡ wire_nodes tally.too_long tally.short tally.unknown tally.sent) }
-{
-    let Tally {
-        too_long,
-        short,
-        unknown,
-        sent,
-    } = tally;
-    let nodes = vec![in alloc;
-        (name("pg-input"), too_long + short + unknown + sent),
-        (name("handoff-dequeue"), 0),
-        (name("ethernet-input"), short + unknown + sent),
-        (name("ip4-input"), 0),
-        (name("ip4-lookup"), 0),
-        (name("ip4-rewrite"), 0),
-        (name("interface-output"), 0),
-        (name("interface-tx"), sent),
-        (name("error-drop"), too_long + short + unknown),
-    ]?;
-    Ok(NameCounts::from_vec(nodes))
-}
-
-/// The errors that were made.
-fn errors(alloc: Global, tally: Tally) -> Result<ErrorCounts, AllocError>
-    ensures { IfOk result (λ errors. errors ≡ wire_errors tally.too_long tally.short tally.unknown) }
+/// The errors that nodes made, node by node.
+fn errors(alloc: Global, graph: &Graph, drops: &[[u64; ERRORS]]) -> Result<ErrorCounts, AllocError>
+    requires { length drops.now ≡ length graph.now.nodes }
+    ensures { IfOk result (λ errors. errors ≡ all_made graph.now.nodes drops.now) }
 {
     let mut errors = Vec::new(alloc);
-    if tally.too_long > 0 {
-        errors.push((name("pg-input"), DropError::TooLong, tally.too_long))?;
-    }
-    if tally.short > 0 {
-        errors.push((name("ethernet-input"), DropError::Short, tally.short))?;
-    }
-    if tally.unknown > 0 {
-        errors.push((
-            name("ethernet-input"),
-            DropError::UnknownType,
-            tally.unknown,
-        ))?;
+    for n in 0..graph.nodes() {
+        put_errors(&mut errors, graph.node_name(n), &drops[usize::from(n)])?;
     }
     Ok(ErrorCounts::from_vec(errors))
 }
 
-/// How a packet's line says that it ended.
-fn end_by_name(end: WireEnd) -> PacketEnd
-    ensures { result ≡ packet_end end }
+/// An end by names.
+fn end_by_name(graph: &Graph, end: End) -> PacketEnd
+    requires { IsEndIn graph.now end }
+    ensures { result ≡ named_end graph.now end }
 {
     match end {
-        WireEnd::TooLong => PacketEnd::Dropped {
-            node: name("pg-input"),
-            error: DropError::TooLong,
+        End::Tx { interface } => PacketEnd::Tx {
+            interface: copied(&graph.interface_at(interface).name),
         },
-        WireEnd::Short => PacketEnd::Dropped {
-            node: name("ethernet-input"),
-            error: DropError::Short,
-        },
-        WireEnd::UnknownType => PacketEnd::Dropped {
-            node: name("ethernet-input"),
-            error: DropError::UnknownType,
-        },
-        WireEnd::Sent => PacketEnd::Tx {
-            interface: name("pg0"),
+        End::Dropped { node, error } => PacketEnd::Dropped {
+            node: copied(graph.node_name(node)),
+            error,
         },
     }
 }
 
-/// A packet's line.
-fn line(end: WireEnd) -> PacketLine
-    ensures { result ≡ wire_line end }
+/// The line of a packet.
+fn line(graph: &Graph, fate: Fate) -> PacketLine
+    requires { IsEndIn graph.now fate.end }
+    ensures { result ≡ line_of_fate graph.now fate }
 {
-    let mut legs = Legs::new();
-    legs.push(Leg {
-        worker: 0,
-        generation: 0,
-    });
+    let Fate {
+        number: _,
+        legs,
+        congested,
+        end,
+    } = fate;
     PacketLine {
         legs,
-        congested: None,
-        end: end_by_name(end),
+        congested,
+        end: end_by_name(graph, end),
     }
 }
 
 /// The lines of packets.
-fn lines(alloc: Global, ends: &[WireEnd]) -> Result<Vec<PacketLine>, AllocError>
-    ensures { IfOk result (λ lines. lines.items ≡ map wire_line ends.now) }
+fn lines(alloc: Global, graph: &Graph, fates: Fates) -> Result<PacketLines, AllocError>
+    requires { AllByRecursion (λ fate. IsEndIn graph.now fate.end) fates }
+    ensures { IfOk result (λ lines. lines ≡ map (line_of_fate graph.now) fates) }
 {
-    ends.iter().map(|end| line(*end)).collect(alloc)
+    let mut lines = Vec::new(alloc);
+    for fate in fates.into_vec() {
+        lines.push(line(graph, fate))?;
+    }
+    Ok(PacketLines::from_vec(lines))
 }
 
-/// The report of a run with one worker, whose packets ended so.
-pub fn report(alloc: Global, ends: &[WireEnd]) -> Result<Report, AllocError>
-    requires { length ends.now ≤ 65536 }
-    ensures { IfOk result (λ report. report ≡ wire_report ends.now) }
+/// The report of a run with one worker over one generation of the graph, from the log of the packets' journeys.
+pub fn report(alloc: Global, graph: &Graph, log: Log) -> Result<Report, AllocError>
+    requires { IsLog graph.now log }
+    ensures report { IfOk result (λ report. (js : List Journey) → IsLogOf graph.now js log
+        → (capture script tx : List ℕ) → report ≡ report_of (plain_run capture script tx) (graph.now ∷ []) js) }
+    ensures interfaces { IfOk result (λ report. AllByRecursion (λ entry. IsName entry.0) report.interfaces) }
+    ensures nodes { IfOk result (λ report. AllByRecursion (λ entry. IsName entry.0) report.nodes) }
 {
-    let tally = Tally::of(ends);
+    let Log {
+        fates,
+        sent: _,
+        counts,
+    } = log;
+    let Counts {
+        visits,
+        drops,
+        sends,
+    } = counts;
     Ok(Report {
-        workers: 1,
-        buffers: 4096,
-        generations: 1,
-        interfaces: NameCounts::from_vec(vec![in alloc; (name("pg0"), tally.sent)]?),
-        nodes: nodes(alloc, tally)?,
-        errors: errors(alloc, tally)?,
-        packets: PacketLines::from_vec(lines(alloc, ends)?),
+        workers: WORKERS,
+        buffers: BUFFERS,
+        generations: GENERATIONS,
+        interfaces: interfaces(alloc, graph, sends.as_slice())?,
+        nodes: nodes(alloc, graph, visits.as_slice())?,
+        errors: errors(alloc, graph, drops.as_slice())?,
+        packets: lines(alloc, graph, fates)?,
         traces: TraceLines::from_vec(Vec::new(alloc)),
     })
 }

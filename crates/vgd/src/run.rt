@@ -4,13 +4,12 @@ ghost use Rattle.vgd.specs.Run.{called, IsDue, status_of, line_of};
 ghost use Rattle.vgd.specs.Dues.{IsDueFor, AreTextsOf};
 
 use crate::loading::load_files;
-use crate::reading::read_files;
+use crate::reading::{Input, read_files};
 use crate::refusals::{Refusal, Stop};
 use crate::reporting::report;
-use crate::walking::walk_all;
 use crate::words::read_words;
 use std::alloc::Global;
-use vg_capture::{Capture, write_capture};
+use vg_capture::write_capture;
 use vg_model::{Bytes, Memory};
 use vg_outside::Folder;
 use vg_report::write_report;
@@ -53,17 +52,16 @@ struct Texts {
     report: Bytes,
 }
 
-/// The savefile and the report of what a capture's packets become.
-fn forward(alloc: Global, capture: &Capture) -> Result<Texts, Memory>
-    ensures { IfOk result (AreTextsOf capture.now) }
+/// The savefile and the report of what the packets become.
+fn forward(alloc: Global, input: &Input) -> Result<Texts, Memory>
+    ensures { IfOk result (AreTextsOf input.now.router input.now.capture) }
 {
-    let Ok(log) = walk_all(alloc, capture.packets.as_slice()) else {
-        return Err(Memory);
-    };
-    let Ok(report) = report(alloc, log.ends.as_slice()) else {
-        return Err(Memory);
-    };
+    let Input { capture, router } = input;
+    let log = router.walk_all(alloc, capture.packets.as_slice())?;
     let tx = write_capture(alloc, capture, log.sent.as_slice())?;
+    let Ok(report) = report(alloc, router.graph(), log) else {
+        return Err(Memory);
+    };
     let report = write_report(alloc, &report)?;
     Ok(Texts { tx, report })
 }
@@ -81,11 +79,11 @@ pub fn run<F: Folder>(alloc: Global, words: &[&str], folder: &mut F) -> Result<D
         Ok(files) => files,
         Err(stop) => return stopped(alloc, stop),
     };
-    let capture = match read_files(alloc, &files) {
-        Ok(capture) => capture,
+    let input = match read_files(alloc, &files) {
+        Ok(input) => input,
         Err(stop) => return stopped(alloc, stop),
     };
-    let Texts { tx, report } = forward(alloc, &capture)?;
+    let Texts { tx, report } = forward(alloc, &input)?;
     let not_saved = refuse(alloc, Refusal::Save(run.tx))?;
     match folder.save(run.tx, tx.as_slice()) {
         Ok(()) => Ok(Due {

@@ -1,7 +1,7 @@
 //! Runs over folders and sinks in memory.
 
 use crate::top::vgd_run;
-use std::alloc::Global;
+use std::alloc::{AllocError, Global};
 use std::num::NonZeroUsize;
 use std::process::Abort;
 use std::test::Fail;
@@ -12,32 +12,131 @@ const HEADER: [u8; 24] = [
     0xd4, 0xc3, 0xb2, 0xa1, 2, 0, 4, 0, 0, 0, 0, 0, 0, 0, 0, 0, 0, 0, 4, 0, 1, 0, 0, 0,
 ];
 
-/// The header of a record at time 0 of a packet of 34 bytes.
-const RECORD: [u8; 16] = [0, 0, 0, 0, 0, 0, 0, 0, 34, 0, 0, 0, 34, 0, 0, 0];
+/// The words of a run.
+const RUN: [&str; 4] = ["run", "c", "s", "t"];
+
+/// A frame by its first bytes in hexadecimal digits, and its length: zero bytes follow, or it is cut.
+type Frame<'a> = (&'a str, u32);
 
 /// A frame from 192.0.2.1 to 10.1.2.3, of a datagram with no data.
-const FRAME: [u8; 34] = [
-    0x02, 0xfe, 0, 0, 0, 0, 0x02, 0, 0, 0, 0, 0x01, 0x08, 0x00, 0x45, 0, 0, 0x14, 0, 0, 0, 0, 0x40,
-    0x11, 0xac, 0xd4, 0xc0, 0x00, 0x02, 0x01, 0x0a, 0x01, 0x02, 0x03,
-];
+const FRAME: Frame<'static> = (
+    "02fe00000000 020000000001 0800 4500001400000000 4011acd4 c0000201 0a010203",
+    34,
+);
 
 /// The script that sends each IPv4 frame straight to the interface.
 const WIRE: &[u8] = b"arc ethernet-input ip4 interface-tx\n";
 
-/// The frame twice, and then the same with the type of ARP.
-fn two_frames_and_an_arp(alloc: Global) -> Result<Vec<u8>, Fail> {
-    let mut file = HEADER.to_vec(alloc)?;
-    for _ in 0..3 {
-        file.extend_from_slice(&RECORD)?;
-        file.extend_from_slice(&FRAME)?;
+/// The script with one neighbor, to which all goes.
+const EAST: &[u8] =
+    b"adjacency east interface pg0 dst 02:00:00:00:00:09\nroute 0.0.0.0/0 via east\n";
+
+/// The bytes of a text in hexadecimal digits; all else in it says nothing.
+fn bytes_of(alloc: Global, text: &str) -> Result<Vec<u8>, AllocError> {
+    let mut bytes = Vec::new(alloc);
+    let mut high: Option<u8> = None;
+    for digit in text.as_bytes() {
+        let value = match *digit {
+            b'0'..=b'9' => *digit - b'0',
+            b'a'..=b'f' => *digit - b'a' + 10,
+            _ => continue,
+        };
+        high = match high {
+            Some(high) => {
+                bytes.push(high << 4 | value)?;
+                None
+            }
+            None => Some(value),
+        };
     }
-    if file.len() > 153 {
-        file[153] = 6;
+    Ok(bytes)
+}
+
+/// The savefile of these frames, at time 0.
+fn savefile(alloc: Global, frames: &[Frame<'_>]) -> Result<Vec<u8>, AllocError> {
+    let mut file = HEADER.to_vec(alloc)?;
+    for (text, len) in frames {
+        let bytes = bytes_of(alloc, text)?;
+        file.extend_from_slice(&[0; 8])?;
+        file.extend_from_slice(&len.to_le_bytes())?;
+        file.extend_from_slice(&len.to_le_bytes())?;
+        for place in 0..*len as usize {
+            file.push(bytes.get(place).copied().unwrap_or(0))?;
+        }
     }
     Ok(file)
 }
 
-/// The report of these packets.
+/// What a run did: its status, and what the sink and the folder hold behind it.
+#[derive(Drop)]
+struct Ran {
+    status: u8,
+    printed: Vec<u8>,
+    tx: Option<Vec<u8>>,
+}
+
+/// Runs over these files.
+fn run_over(
+    alloc: Global,
+    words: &[&str],
+    capture: &[u8],
+    script: &[u8],
+) -> Result<Ran, AllocError> {
+    let mut folder = SureFolder::new(alloc);
+    folder.add("c", capture)?;
+    folder.add("s", script)?;
+    let mut out = SureSink::new(alloc);
+    let status = vgd_run(alloc, words, &mut folder, &mut out);
+    Ok(Ran {
+        status,
+        printed: out.written().to_vec(alloc)?,
+        tx: match folder.file("t") {
+            Some(tx) => Some(tx.to_vec(alloc)?),
+            None => None,
+        },
+    })
+}
+
+/// A run over these frames transmits those, and prints this report.
+fn assert_done<R: Abort + AllocGlobal>(
+    rt: &R,
+    script: &[u8],
+    frames: &[Frame<'_>],
+    sent: &[Frame<'_>],
+    report: &str,
+) -> Result<(), Fail> {
+    let alloc = rt.alloc();
+    let capture = savefile(alloc, frames)?;
+    let ran = run_over(alloc, &RUN, capture.as_slice(), script)?;
+    assert_eq!(rt; ran.printed.as_slice(), report.as_bytes());
+    assert_eq!(rt; ran.status, 0);
+    assert_eq!(rt; ran.tx.ok_or("no savefile")?, savefile(alloc, sent)?);
+    Ok(())
+}
+
+/// A refused run has this status and prints this line, and saves nothing.
+fn assert_refused<R: Abort + AllocGlobal>(
+    rt: &R,
+    words: &[&str],
+    capture: &[u8],
+    script: &[u8],
+    status: u8,
+    line: &str,
+) -> Result<(), Fail> {
+    let ran = run_over(rt.alloc(), words, capture, script)?;
+    assert_eq!(rt; ran.printed.as_slice(), line.as_bytes());
+    assert_eq!(rt; ran.status, status, "{line}");
+    assert!(rt; ran.tx.is_none());
+    Ok(())
+}
+
+/// The frame with the type of ARP.
+const ARP: Frame<'static> = (
+    "02fe00000000 020000000001 0806 4500001400000000 4011acd4 c0000201 0a010203",
+    34,
+);
+
+/// The report of the frame twice, and then the same with the type of ARP.
 const REPORT: &str = "vgd report 1\nworkers 1\nbuffers 4096\ngenerations 1\npackets 3\n\
     interface 0 pg0 tx 2\nnode 0 pg-input 3\nnode 1 handoff-dequeue 0\nnode 2 ethernet-input 3\n\
     node 3 ip4-input 0\nnode 4 ip4-lookup 0\nnode 5 ip4-rewrite 0\nnode 6 interface-output 0\n\
@@ -46,75 +145,22 @@ const REPORT: &str = "vgd report 1\nworkers 1\nbuffers 4096\ngenerations 1\npack
 
 #[test]
 fn frames_are_transmitted_and_an_arp_is_not(rt: HostRuntime) -> Result<(), Fail> {
-    let alloc = rt.alloc();
-    let capture = two_frames_and_an_arp(alloc)?;
-    assert_eq!(rt; capture.len(), 174);
-    let mut folder = SureFolder::new(alloc);
-    folder.add("c", capture.as_slice())?;
-    folder.add("s", WIRE)?;
-    let mut out = SureSink::new(alloc);
-    let status = vgd_run(alloc, &["run", "c", "s", "t"], &mut folder, &mut out);
-    assert_eq!(rt; status, 0);
-    let tx = folder.file("t").ok_or("no savefile")?;
-    assert_eq!(rt; tx.len(), 124);
-    assert_eq!(rt; Some(tx), capture.get(..124));
-    assert_eq!(rt; out.written(), REPORT.as_bytes());
-    Ok(())
+    assert_done(&rt, WIRE, &[FRAME, FRAME, ARP], &[FRAME, FRAME], REPORT)
 }
 
 #[test]
 fn no_packets_give_a_header_alone(rt: HostRuntime) -> Result<(), Fail> {
-    let alloc = rt.alloc();
-    let mut folder = SureFolder::new(alloc);
-    folder.add("c", &HEADER)?;
-    folder.add("s", b"arc ethernet-input ip4 interface-tx")?;
-    folder.add("t", b"an older file")?;
-    let mut out = SureSink::new(alloc);
-    let status = vgd_run(alloc, &["run", "c", "s", "t"], &mut folder, &mut out);
-    assert_eq!(rt; status, 0);
-    assert_eq!(rt; folder.file("t").ok_or("no savefile")?, HEADER.as_slice());
     let report = "vgd report 1\nworkers 1\nbuffers 4096\ngenerations 1\npackets 0\n\
         interface 0 pg0 tx 0\nnode 0 pg-input 0\nnode 1 handoff-dequeue 0\nnode 2 ethernet-input 0\n\
         node 3 ip4-input 0\nnode 4 ip4-lookup 0\nnode 5 ip4-rewrite 0\nnode 6 interface-output 0\n\
         node 7 interface-tx 0\nnode 8 error-drop 0\nend\n";
-    assert_eq!(rt; out.written(), report.as_bytes());
-    Ok(())
-}
-
-/// A record of the frame cut to so many bytes, or with zero bytes behind it.
-fn add_record(file: &mut Vec<u8>, len: u32) -> Result<(), Fail> {
-    file.extend_from_slice(&[0; 8])?;
-    file.extend_from_slice(&len.to_le_bytes())?;
-    file.extend_from_slice(&len.to_le_bytes())?;
-    for place in 0..len as usize {
-        file.push(FRAME.get(place).copied().unwrap_or(0))?;
-    }
-    Ok(())
-}
-
-/// A run over frames of these lengths has these lines of packets and errors, and transmits those of these lengths.
-fn assert_lengths<R: Abort + AllocGlobal>(
-    rt: &R,
-    lengths: [u32; 2],
-    sent: u32,
-    report: &str,
-) -> Result<(), Fail> {
-    let alloc = rt.alloc();
-    let mut capture = HEADER.to_vec(alloc)?;
-    for len in lengths {
-        add_record(&mut capture, len)?;
-    }
-    let mut tx = HEADER.to_vec(alloc)?;
-    add_record(&mut tx, sent)?;
-    let mut folder = SureFolder::new(alloc);
-    folder.add("c", capture.as_slice())?;
-    folder.add("s", WIRE)?;
-    let mut out = SureSink::new(alloc);
-    let status = vgd_run(alloc, &["run", "c", "s", "t"], &mut folder, &mut out);
-    assert_eq!(rt; status, 0);
-    assert_eq!(rt; folder.file("t"), Some(tx.as_slice()));
-    assert_eq!(rt; out.written(), report.as_bytes());
-    Ok(())
+    assert_done(
+        &rt,
+        b"arc ethernet-input ip4 interface-tx",
+        &[],
+        &[],
+        report,
+    )
 }
 
 #[test]
@@ -124,7 +170,13 @@ fn a_frame_shorter_than_its_header_is_dropped(rt: HostRuntime) -> Result<(), Fai
         node 3 ip4-input 0\nnode 4 ip4-lookup 0\nnode 5 ip4-rewrite 0\nnode 6 interface-output 0\n\
         node 7 interface-tx 1\nnode 8 error-drop 1\nerror ethernet-input short 1\n\
         packet 0 0:0 drop ethernet-input short\npacket 1 0:0 tx pg0\nend\n";
-    assert_lengths(&rt, [13, 14], 14, report)
+    assert_done(
+        &rt,
+        WIRE,
+        &[(FRAME.0, 13), (FRAME.0, 14)],
+        &[(FRAME.0, 14)],
+        report,
+    )
 }
 
 #[test]
@@ -134,73 +186,320 @@ fn a_frame_of_more_than_2048_bytes_is_dropped(rt: HostRuntime) -> Result<(), Fai
         node 3 ip4-input 0\nnode 4 ip4-lookup 0\nnode 5 ip4-rewrite 0\nnode 6 interface-output 0\n\
         node 7 interface-tx 1\nnode 8 error-drop 1\nerror pg-input too-long 1\n\
         packet 0 0:0 tx pg0\npacket 1 0:0 drop pg-input too-long\nend\n";
-    assert_lengths(&rt, [2048, 2049], 2048, report)
+    assert_done(
+        &rt,
+        WIRE,
+        &[(FRAME.0, 2048), (FRAME.0, 2049)],
+        &[(FRAME.0, 2048)],
+        report,
+    )
 }
 
-/// A refused run has this status and prints this line, and leaves the folder as it was.
-fn assert_refused<R: Abort + AllocGlobal>(
-    rt: &R,
-    words: &[&str],
-    capture: &[u8],
-    script: &[u8],
-    status: u8,
-    line: &str,
+/// The report of one packet that is forwarded.
+const ONE_FORWARDED: &str = "vgd report 1\nworkers 1\nbuffers 4096\ngenerations 1\npackets 1\n\
+    interface 0 pg0 tx 1\nnode 0 pg-input 1\nnode 1 handoff-dequeue 0\nnode 2 ethernet-input 1\n\
+    node 3 ip4-input 1\nnode 4 ip4-lookup 1\nnode 5 ip4-rewrite 1\nnode 6 interface-output 1\n\
+    node 7 interface-tx 1\nnode 8 error-drop 0\npacket 0 0:0 tx pg0\nend\n";
+
+#[test]
+fn the_longest_prefix_decides_in_any_order(rt: HostRuntime) -> Result<(), Fail> {
+    let rising = b"adjacency a0 interface pg0 dst 02:00:00:00:00:00
+adjacency a8 interface pg0 dst 02:00:00:00:00:08
+adjacency a16 interface pg0 dst 02:00:00:00:00:16
+route 0.0.0.0/0 via a0
+route 10.0.0.0/8 via a8
+route 10.1.0.0/16 via a16
+";
+    let falling = b"adjacency a0 interface pg0 dst 02:00:00:00:00:00
+adjacency a8 interface pg0 dst 02:00:00:00:00:08
+adjacency a16 interface pg0 dst 02:00:00:00:00:16
+route 10.1.0.0/16 via a16
+route 10.0.0.0/8 via a8
+route 0.0.0.0/0 via a0
+";
+    let sent = (
+        "020000000016 02fe00000000 0800 4500001400000000 3f11add4 c0000201 0a010203",
+        34,
+    );
+    assert_done(&rt, rising, &[FRAME], &[sent], ONE_FORWARDED)?;
+    assert_done(&rt, falling, &[FRAME], &[sent], ONE_FORWARDED)
+}
+
+#[test]
+fn the_time_to_live_is_lowered(rt: HostRuntime) -> Result<(), Fail> {
+    let frames = [
+        (
+            "02fe00000000 020000000001 0800 4500001400000000 0111ebd4 c0000201 0a010203",
+            34,
+        ),
+        (
+            "02fe00000000 020000000001 0800 4500001400000000 0211ead4 c0000201 0a010203",
+            34,
+        ),
+        (
+            "02fe00000000 020000000001 0800 4500001400000000 0011ecd4 c0000201 0a010203",
+            34,
+        ),
+    ];
+    let sent = (
+        "020000000009 02fe00000000 0800 4500001400000000 0111ebd4 c0000201 0a010203",
+        34,
+    );
+    let report = "vgd report 1\nworkers 1\nbuffers 4096\ngenerations 1\npackets 3\n\
+        interface 0 pg0 tx 1\nnode 0 pg-input 3\nnode 1 handoff-dequeue 0\nnode 2 ethernet-input 3\n\
+        node 3 ip4-input 3\nnode 4 ip4-lookup 2\nnode 5 ip4-rewrite 2\nnode 6 interface-output 1\n\
+        node 7 interface-tx 1\nnode 8 error-drop 2\n\
+        error ip4-input ttl-zero 1\nerror ip4-rewrite ttl-expired 1\n\
+        packet 0 0:0 drop ip4-rewrite ttl-expired\npacket 1 0:0 tx pg0\n\
+        packet 2 0:0 drop ip4-input ttl-zero\nend\n";
+    assert_done(&rt, EAST, &frames, &[sent], report)
+}
+
+#[test]
+fn the_checksum_goes_with_the_header(rt: HostRuntime) -> Result<(), Fail> {
+    // A checksum of all ones.
+    let all_ones = (
+        "02fe00000000 020000000001 0800 45000014acd40000 4011ffff c0000201 0a010203",
+        34,
+    );
+    let sent = (
+        "020000000009 02fe00000000 0800 45000014acd40000 3f110100 c0000201 0a010203",
+        34,
+    );
+    assert_done(&rt, EAST, &[all_ones], &[sent], ONE_FORWARDED)?;
+
+    // Bytes behind the datagram stay.
+    let padded = (
+        "02fe00000000 020000000001 0800 4500002800000000 4011acc0 c0000201 0a010203",
+        60,
+    );
+    let sent = (
+        "020000000009 02fe00000000 0800 4500002800000000 3f11adc0 c0000201 0a010203",
+        60,
+    );
+    assert_done(&rt, EAST, &[padded], &[sent], ONE_FORWARDED)
+}
+
+#[test]
+fn a_header_with_options_is_forwarded_and_a_short_datagram_is_not(
+    rt: HostRuntime,
 ) -> Result<(), Fail> {
-    let alloc = rt.alloc();
-    let mut folder = SureFolder::new(alloc);
-    folder.add("c", capture)?;
-    folder.add("s", script)?;
-    let mut out = SureSink::new(alloc);
-    let answer = vgd_run(alloc, words, &mut folder, &mut out);
-    assert_eq!(rt; answer, status, "{line}");
-    assert_eq!(rt; out.written(), line.as_bytes());
-    assert_eq!(rt; folder.file("c"), Some(capture));
-    assert_eq!(rt; folder.file("s"), Some(script));
-    assert!(rt; folder.file("t").is_none());
-    Ok(())
+    let frames = [
+        (
+            "02fe00000000 020000000001 0800 4600001800000000 4011a9cf c0000201 0a010203 01010100",
+            38,
+        ),
+        (
+            "02fe00000000 020000000001 0800 4500001500000000 4011acd3 c0000201 0a010203",
+            34,
+        ),
+    ];
+    let sent = (
+        "020000000009 02fe00000000 0800 4600001800000000 3f11aacf c0000201 0a010203 01010100",
+        38,
+    );
+    let report = "vgd report 1\nworkers 1\nbuffers 4096\ngenerations 1\npackets 2\n\
+        interface 0 pg0 tx 1\nnode 0 pg-input 2\nnode 1 handoff-dequeue 0\nnode 2 ethernet-input 2\n\
+        node 3 ip4-input 2\nnode 4 ip4-lookup 1\nnode 5 ip4-rewrite 1\nnode 6 interface-output 1\n\
+        node 7 interface-tx 1\nnode 8 error-drop 1\nerror ip4-input bad-length 1\n\
+        packet 0 0:0 tx pg0\npacket 1 0:0 drop ip4-input bad-length\nend\n";
+    assert_done(&rt, EAST, &frames, &[sent], report)
+}
+
+#[test]
+fn interfaces_filter_and_are_small_and_down(rt: HostRuntime) -> Result<(), Fail> {
+    let script = b"interface pg0 mac 02:fe:00:00:00:00 mtu 100 up filter
+interface lan mac 02:fe:00:00:00:01 mtu 100 down
+adjacency p interface pg0 dst 02:00:00:00:00:05
+adjacency l interface lan dst 02:00:00:00:00:06
+route 10.1.0.0/16 via p
+route 10.2.0.0/16 via l
+";
+    let frames = [
+        (
+            "020000000077 020000000001 0800 4500001400000000 4011acd4 c0000201 0a010203",
+            34,
+        ),
+        (
+            "ffffffffffff 020000000001 0800 4500006400000000 4011ac84 c0000201 0a010203",
+            114,
+        ),
+        (
+            "02fe00000000 020000000001 0800 4500006500000000 4011ac83 c0000201 0a010203",
+            115,
+        ),
+        (
+            "02fe00000000 020000000001 0800 4500001400000000 4011aed5 c0000201 0a020001",
+            34,
+        ),
+        (
+            "02fe00000000 020000000001 0800 4500001400000000 40110cc7 c0000201 ac100001",
+            34,
+        ),
+    ];
+    let sent = (
+        "020000000005 02fe00000000 0800 4500006400000000 3f11ad84 c0000201 0a010203",
+        114,
+    );
+    let report = "vgd report 1\nworkers 1\nbuffers 4096\ngenerations 1\npackets 5\n\
+        interface 0 pg0 tx 1\ninterface 1 lan tx 0\nnode 0 pg-input 5\nnode 1 handoff-dequeue 0\n\
+        node 2 ethernet-input 5\nnode 3 ip4-input 4\nnode 4 ip4-lookup 4\nnode 5 ip4-rewrite 3\n\
+        node 6 interface-output 2\nnode 7 interface-tx 1\nnode 8 error-drop 4\n\
+        error ethernet-input wrong-mac 1\nerror ip4-lookup no-route 1\n\
+        error ip4-rewrite mtu-exceeded 1\nerror interface-output interface-down 1\n\
+        packet 0 0:0 drop ethernet-input wrong-mac\npacket 1 0:0 tx pg0\n\
+        packet 2 0:0 drop ip4-rewrite mtu-exceeded\npacket 3 0:0 drop interface-output interface-down\n\
+        packet 4 0:0 drop ip4-lookup no-route\nend\n";
+    assert_done(&rt, script, &frames, &[sent], report)
 }
 
 #[test]
 fn faulty_words_are_usage(rt: HostRuntime) -> Result<(), Fail> {
-    assert_refused(&rt, &[], &HEADER, WIRE, 2, "usage\n")?;
-    assert_refused(&rt, &["run", "c", "s"], &HEADER, WIRE, 2, "usage\n")?;
-    assert_refused(
-        &rt,
+    let faulty: [&[&str]; 7] = [
+        &[],
+        &["run", "c", "s"],
         &["run", "c", "s", "t", "u"],
-        &HEADER,
-        WIRE,
-        2,
-        "usage\n",
-    )?;
-    assert_refused(&rt, &["--help"], &HEADER, WIRE, 2, "usage\n")?;
-    assert_refused(&rt, &["load", "c", "s", "t"], &HEADER, WIRE, 2, "usage\n")?;
-    assert_refused(&rt, &["run", "", "s", "t"], &HEADER, WIRE, 2, "usage\n")?;
-    assert_refused(&rt, &["run", "c", "s", "-t"], &HEADER, WIRE, 2, "usage\n")?;
+        &["--help"],
+        &["load", "c", "s", "t"],
+        &["run", "", "s", "t"],
+        &["run", "c", "s", "-t"],
+    ];
+    for words in faulty {
+        assert_refused(&rt, words, &HEADER, WIRE, 2, "usage\n")?;
+    }
     Ok(())
 }
 
 #[test]
 fn torn_captures_are_refused(rt: HostRuntime) -> Result<(), Fail> {
-    let run = &["run", "c", "s", "t"];
-    let capture = two_frames_and_an_arp(rt.alloc())?;
-    let cut = |len: usize| capture.get(..len).ok_or("too short");
-    assert_refused(&rt, run, cut(173)?, WIRE, 4, "capture truncated 140\n")?;
-    assert_refused(&rt, run, cut(130)?, WIRE, 4, "capture truncated 124\n")?;
-    assert_refused(&rt, run, cut(10)?, WIRE, 4, "capture truncated 0\n")?;
+    let capture = savefile(rt.alloc(), &[FRAME, FRAME, ARP])?;
+    assert_eq!(rt; capture.len(), 174);
+    let torn = [
+        (173, "capture truncated 140\n"),
+        (130, "capture truncated 124\n"),
+        (10, "capture truncated 0\n"),
+    ];
+    for (len, line) in torn {
+        let cut = capture.get(..len).ok_or("too short")?;
+        assert_refused(&rt, &RUN, cut, WIRE, 4, line)?;
+    }
     Ok(())
 }
 
 #[test]
-fn files_that_cannot_be_read_are_refused(rt: HostRuntime) -> Result<(), Fail> {
-    let run = &["run", "c", "s", "t"];
+fn the_first_fault_is_told(rt: HostRuntime) -> Result<(), Fail> {
+    let none = b"none";
     assert_refused(&rt, &["run", "x", "s", "t"], &HEADER, WIRE, 3, "load x\n")?;
     assert_refused(&rt, &["run", "c", "y", "t"], &HEADER, WIRE, 3, "load y\n")?;
     assert_refused(&rt, &["run", "x", "y", "t"], &HEADER, WIRE, 3, "load x\n")?;
-    assert_refused(&rt, run, b"none", WIRE, 4, "capture not-pcap 0\n")?;
-    assert_refused(&rt, run, &HEADER[..10], WIRE, 4, "capture truncated 0\n")?;
-    assert_refused(&rt, run, b"none", b"arc hub", 4, "capture not-pcap 0\n")?;
-    assert_refused(&rt, run, &HEADER, b"arc hub", 5, "script 1 not-built\n")?;
+    assert_refused(&rt, &RUN, none, WIRE, 4, "capture not-pcap 0\n")?;
+    assert_refused(&rt, &RUN, none, b"arc hub", 4, "capture not-pcap 0\n")?;
+    assert_refused(
+        &rt,
+        &RUN,
+        &HEADER,
+        b"unroute 10.0.0.0/8\narc hub",
+        5,
+        "script 2 word\n",
+    )?;
+    assert_refused(
+        &rt,
+        &RUN,
+        &HEADER,
+        b"node a kind pass\nunroute 10.0.0.0/8\nunroute 11.0.0.0/8",
+        5,
+        "script 2 no-route\n",
+    )
+}
+
+#[test]
+fn faulty_scripts_are_refused(rt: HostRuntime) -> Result<(), Fail> {
+    let faulty: [(&[u8], &str); 17] = [
+        (b"route 10.0.0.1/8 drop", "script 1 prefix\n"),
+        (b"route 10.0.0.0/33 drop", "script 1 prefix\n"),
+        (b"arc hub", "script 1 word\n"),
+        (b"\x00", "script 1 bytes\n"),
+        (b"then", "script 1 block\n"),
+        (b"at 01", "script 1 number\n"),
+        (
+            b"node a kind pass\nnode a kind pass",
+            "script 2 double-name\n",
+        ),
+        (b"arc nobody out error-drop", "script 1 unknown-node\n"),
+        (b"arc pg-input out nobody", "script 1 unknown-node\n"),
+        (b"arc pg-input in error-drop", "script 1 unknown-slot\n"),
+        (b"arc pg-input out handoff-dequeue", "script 1 bad-target\n"),
+        (b"arc ip4-input lookup ethernet-input", "script 1 cycle\n"),
+        (
+            b"adjacency a interface nobody dst 02:00:00:00:00:01",
+            "script 1 unknown-interface\n",
+        ),
+        (
+            b"route 10.0.0.0/8 via nobody",
+            "script 1 unknown-adjacency\n",
+        ),
+        (b"unroute 10.0.0.0/8", "script 1 no-route\n"),
+        (b"node a kind error-drop", "script 1 kind\n"),
+        (b"interface pg0 mac 02:fe mtu 100 up", "script 1 mac\n"),
+    ];
+    for (script, line) in faulty {
+        assert_refused(&rt, &RUN, &HEADER, script, 5, line)?;
+    }
     Ok(())
+}
+
+#[test]
+fn a_comment_may_hold_any_bytes(rt: HostRuntime) -> Result<(), Fail> {
+    let ran = run_over(rt.alloc(), &RUN, &HEADER, b"# \xff")?;
+    assert_eq!(rt; ran.status, 0);
+    assert_eq!(rt; ran.tx.ok_or("no savefile")?.as_slice(), HEADER.as_slice());
+    Ok(())
+}
+
+/// So many lines, which differ in a number of two parts.
+fn lines(alloc: Global, count: u32, before: &str, after: &str) -> Result<String, AllocError> {
+    let mut text = String::new(alloc);
+    for number in 0..count {
+        let high = number / 256;
+        let low = number % 256;
+        let line = format!(in alloc; "{before}{high}.{low}{after}\n")?;
+        text.push_str(line.as_str())?;
+    }
+    Ok(text)
+}
+
+#[test]
+fn one_more_than_may_be_is_refused(rt: HostRuntime) -> Result<(), Fail> {
+    let alloc = rt.alloc();
+    let too_many = [
+        (56, "node n", " kind pass", "script 56 too-many\n"),
+        (
+            16,
+            "interface i",
+            " mac 02:fe:00:00:00:01 mtu 1500 up",
+            "script 16 too-many\n",
+        ),
+        (
+            257,
+            "adjacency a",
+            " interface pg0 dst 02:00:00:00:00:01",
+            "script 257 too-many\n",
+        ),
+        (4097, "route 10.", ".0/24 drop", "script 4097 too-many\n"),
+    ];
+    for (count, before, after, line) in too_many {
+        let script = lines(alloc, count, before, after)?;
+        assert_refused(&rt, &RUN, &HEADER, script.as_str().as_bytes(), 5, line)?;
+    }
+    let script = vec![in alloc; b'#'; 262_145]?;
+    assert_refused(
+        &rt,
+        &RUN,
+        &HEADER,
+        script.as_slice(),
+        5,
+        "script 0 too-large\n",
+    )
 }
 
 /// A run over a folder whose call of this number fails has this status and prints this line.
@@ -215,7 +514,7 @@ fn assert_fails<R: Abort + AllocGlobal>(
     folder.add("c", &HEADER)?;
     folder.add("s", WIRE)?;
     let mut out = MemorySink::new(alloc, Vec::new(alloc), None);
-    let answer = vgd_run(alloc, &["run", "c", "s", "t"], &mut folder, &mut out);
+    let answer = vgd_run(alloc, &RUN, &mut folder, &mut out);
     assert_eq!(rt; answer, status, "{line}");
     assert_eq!(rt; out.written(), line.as_bytes());
     assert_eq!(rt; folder.file("c"), Some(HEADER.as_slice()));
@@ -240,10 +539,10 @@ fn assert_front<R: Abort + AllocGlobal>(
 ) -> Result<(), Fail> {
     let alloc = rt.alloc();
     let mut folder = SureFolder::new(alloc);
-    folder.add("c", two_frames_and_an_arp(alloc)?.as_slice())?;
+    folder.add("c", savefile(alloc, &[FRAME, FRAME, ARP])?.as_slice())?;
     folder.add("s", WIRE)?;
     let mut out = MemorySink::new(alloc, vec![in alloc; failing]?, NonZeroUsize::new(most));
-    let status = vgd_run(alloc, &["run", "c", "s", "t"], &mut folder, &mut out);
+    let status = vgd_run(alloc, &RUN, &mut folder, &mut out);
     assert_eq!(rt; status, 7);
     assert_eq!(rt; Some(out.written()), REPORT.as_bytes().get(..printed));
     assert_eq!(rt; folder.file("t").ok_or("no savefile")?.len(), 124);

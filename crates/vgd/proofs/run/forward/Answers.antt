@@ -1,31 +1,37 @@
-use Rattle.std.proofs.Common.{◌≡◌, ◌≤◌, List, length, sym, ap, subst, ◌∙◌, arith}
-use Rattle.std.proofs.lemmas.List.{length-map}
+use Rattle.std.proofs.Common.{◌≡◌, ◌≤◌, ℕ, List, [], ◌∷◌, length, map, ap, subst, ◌∙◌, sym, arith}
+use Rattle.std.specs.Prelude.{Some}
+use Rattle.vg_model.specs.Visit.{ip4_visit}
+use Rattle.vg_model.specs.Journey.{Journey, journeys}
 use Rattle.vg_capture.specs.declared.captures.Captured.{Captured}
 use Rattle.vg_capture.specs.declared.captures.Sent.{Sent}
 use Rattle.vg_capture.specs.Savefile.{savefile, pairs}
-use Rattle.vg_report.specs.Lawful.{IsLawful}
-use Rattle.vgd.specs.Walk.{IsLogOf, wire_end}
-use Rattle.vgd.specs.WireReport.{wire_report}
+use Rattle.vg_walk.specs.Walks.{AreWalked, frames, one_leg}
+use Rattle.vgd.specs.Command.{plain_run}
+use Rattle.vgd.specs.Output.{report_of}
+use Rattle.vgd.proofs.CongestionLemmas.{own_journeys}
+use Rattle.vgd.proofs.RunLemmas.{reported_whole, output_is}
 use Rattle.vgd.proofs.LawfulLemmas.{report_lawful}
-use Rattle.vgd.proofs.RunLemmas.{output_is}
 use Rattle.vgd.proofs.run.forward.Goals as goal
 
 pub write_report-requires : goal.write_report-requires
 write_report-requires c =
-    let few : length c.in-Ok.log.ends.items ≤ 65536 =
-    omega (arith, ap length c.in-Ok.ensures.log.are_ends, length-map c.as_slice.result.now (λ (p : Captured). wire_end p.bytes), c.as_slice.ensures.few) in
-    let report : c.in-Ok-report.report ≡ wire_report c.in-Ok.log.ends.items = c.in-Ok-report.ensures ∙ ap wire_report c.as_slice-2.ensures.value in
-    subst IsLawful (sym report) (report_lawful c.in-Ok.log.ends.items few)
+    let walked : AreWalked c.args.input.now.router c.as_slice.result.now c.in_ok-log.log = c.in_ok-log.ensures.walked in
+    let own = own_journeys c.args.input.now.router 0 c.as_slice.result.now walked.js walked.are_journeys in
+    let reported : (capture script tx : List ℕ) → c.in-Ok.report ≡ report_of (plain_run capture script tx) (c.args.input.now.router ∷ []) walked.js =
+    reported_whole c.graph.result.now c.args.input.now.router _ c.in_ok-log.log walked.js c.in-Ok.report c.graph.ensures.graph walked.is_log c.in-Ok.ensures.report in
+    report_lawful c.args.input.now.router c.in_ok-log.log walked.js [] [] [] c.in-Ok.report (reported [] [] []) c.graph.ensures.router walked.is_log
+    (omega (arith, own.1, c.as_slice.ensures.few)) own.0 c.in-Ok.ensures.interfaces c.in-Ok.ensures.nodes
 
 pub returns : goal.returns
 returns c =
-    let log : IsLogOf c.args.capture.now.packets c.in-Ok.log.ends.items c.in-Ok.log.sent.items =
-    subst (λ (ps : List Captured). IsLogOf ps c.in-Ok.log.ends.items c.in-Ok.log.sent.items) c.as_slice.ensures.packets c.in-Ok.ensures.log in
-    let report : c.in-Ok-report.report ≡ wire_report c.in-Ok.log.ends.items = c.in-Ok-report.ensures ∙ ap wire_report c.as_slice-2.ensures.value in
-    let saved : c.in_ok-tx.tx ≡ savefile c.args.capture.now (pairs c.in-Ok.log.sent.items) =
-    c.in_ok-tx.ensures ∙ ap (λ (s : List Sent). savefile c.args.capture.now (pairs s)) c.as_slice-3.ensures.value in
+    let walked : AreWalked c.args.input.now.router c.args.input.now.capture.packets c.in_ok-log.log =
+    subst (λ (ps : List Captured). AreWalked c.args.input.now.router ps c.in_ok-log.log) c.as_slice.ensures.packets c.in_ok-log.ensures.walked in
+    let reported : (capture script tx : List ℕ) → c.in-Ok.report ≡ report_of (plain_run capture script tx) (c.args.input.now.router ∷ []) walked.js =
+    reported_whole c.graph.result.now c.args.input.now.router _ c.in_ok-log.log walked.js c.in-Ok.report c.graph.ensures.graph walked.is_log c.in-Ok.ensures.report in
+    let saved : c.in_ok-tx.tx ≡ savefile c.args.input.now.capture (pairs c.in_ok-log.log.sent.items) =
+    c.in_ok-tx.ensures ∙ ap (λ (s : List Sent). savefile c.args.input.now.capture (pairs s)) c.as_slice-2.ensures.value in
     record {
-      report = c.in-Ok-report.report;
+      report = c.in-Ok.report;
       is_text = c.in_ok-report.ensures;
-      output = output_is c.args.capture.now c.in-Ok.log.ends.items c.in-Ok.log.sent.items c.in-Ok-report.report c.in_ok-tx.tx log report saved;
+      output = output_is c.args.input.now.router c.args.input.now.capture c.in_ok-log.log walked.js c.in-Ok.report c.in_ok-tx.tx walked.are_journeys walked.is_log reported saved;
     }

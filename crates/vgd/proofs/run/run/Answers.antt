@@ -1,4 +1,4 @@
-use Rattle.std.proofs.Common.{subst, inr, refl}
+use Rattle.std.proofs.Common.{subst, inr, refl, [], ◌∷◌}
 use Rattle.vg_outside.specs.Files.{HoldsBytes, SameElsewhere, Rose}
 use Rattle.vgd.specs.declared.refusals.Refusal.TheVariants as refusals
 use Rattle.vgd.specs.Command.{texts}
@@ -27,8 +27,8 @@ returns-in-Ok-save-clause-due g c =
     subst (HoldsBytes (g.F.Folder.contents c.save.new.self) c.in-Some.run'.tx.now) c.as_slice.ensures c.in-Ok-save.ensures.ok in
     let others : SameElsewhere (g.F.Folder.contents c.args.folder.now) (g.F.Folder.contents c.save.new.self) c.in-Some.run'.tx.now =
     subst (λ o. SameElsewhere o (g.F.Folder.contents c.save.new.self) c.in-Some.run'.tx.now) c.load_files.ensures.same c.save.ensures.others in
-    done_due _ c.in-Some.run'.capture.now c.in-Some.run'.script.now c.in-Some.run'.tx.now c.in-Ok-read_files.capture c.in_ok-tx.ensures.report c.in_ok-tx.field-0.tx _
-    (accepted_read _ _ c.in-Ok.files.capture c.in-Ok.files.script c.in-Ok-read_files.capture c.in-Some.ensures c.in-Ok.ensures.files c.in-Ok-read_files.ensures.read)
+    done_due _ c.in-Some.run'.capture.now c.in-Some.run'.script.now c.in-Some.run'.tx.now c.in-Ok-read_files.input.capture (c.in-Ok-read_files.input.router ∷ []) c.in_ok-tx.ensures.report c.in_ok-tx.field-0.tx _
+    (accepted_read _ _ c.in-Ok.files.capture c.in-Ok.files.script c.in-Ok-read_files.input c.in-Some.ensures c.in-Ok.ensures.files c.in-Ok-read_files.ensures.read)
     (c.in_ok-tx.ensures.output c.in-Some.run'.capture.now c.in-Some.run'.script.now c.in-Some.run'.tx.now)
     c.in_ok-tx.ensures.is_text saved others
 
@@ -42,7 +42,7 @@ returns-clause-due g c =
       refusals.Save c.in-Some.run'.tx,
       c.in_ok-not_saved.ensures.status,
       c.in_ok-not_saved.ensures.text,
-      save_fault _ c.in-Some.run'.capture.now c.in-Some.run'.script.now c.in-Some.run'.tx.now c.in-Some.run'.tx c.in-Ok-read_files.capture refl
-          (accepted_read _ _ c.in-Ok.files.capture c.in-Ok.files.script c.in-Ok-read_files.capture c.in-Some.ensures c.in-Ok.ensures.files c.in-Ok-read_files.ensures.read)
+      save_fault _ c.in-Some.run'.capture.now c.in-Some.run'.script.now c.in-Some.run'.tx.now c.in-Some.run'.tx c.in-Ok-read_files.input.capture (c.in-Ok-read_files.input.router ∷ []) refl
+          (accepted_read _ _ c.in-Ok.files.capture c.in-Ok.files.script c.in-Ok-read_files.input c.in-Some.ensures c.in-Ok.ensures.files c.in-Ok-read_files.ensures.read)
           fault others,
     )

@@ -1,0 +1,17 @@
+use Rattle.vg_graph.proofs.ListLemmas.{all_append}
+use Rattle.std.specs.Prelude.{Some, slice_get}
+use Rattle.std.proofs.Common.{◌≡◌}
+use Rattle.vg_model.specs.declared.kinds.Interface.{Interface}
+use Rattle.vgd.proofs.CountLemmas.{counted_more}
+use Rattle.vgd.proofs.reporting.interfaces.Goals as goal
+
+pub loop-n-preserved : goal.loop-n-preserved
+loop-n-preserved c =
+    let more = counted_more (λ (interface : Interface). interface.name) c.args.graph.now.interfaces c.args.sends.now c.loop-n.n c.interface_at.result.now c.interface_at.ensures in
+    let same = c.copied-name.ensures.same in
+    let number = c.from.ensures in
+    let pushed = c.in_ok-push.ensures.items in
+    record {
+      counts = cc;
+      names = rw c.in_ok-push.ensures.items (all_append _ _ _ c.loop-n.invariant.names c.copied-name.ensures.name);
+    }

@@ -1,0 +1,10 @@
+use Rattle.std.proofs.Common.{◌≡◌, ℕ, List, ◌++◌, take, map}
+use Rattle.std.specs.Prelude.{filter, nat_lt}
+use Rattle.std.specs.List.{zip}
+use Rattle.vg_model.specs.declared.kinds.DropError.{DropError}
+use Rattle.vg_model.specs.Errors.{all_errors}
+use Rattle.vgd.proofs.CountLemmas.{first_errors}
+use Rattle.vgd.proofs.reporting.put_errors.Given as goal
+
+abbrev pub invariant-loop-place : goal.invariant-loop-place
+invariant-loop-place l = l.errors.items ≡ l.initial.errors.items ++ first_errors l.name l.drops l.place
