@@ -1,6 +1,6 @@
 -- No node drops a packet by congestion: only a full queue does.
-use Rattle.std.proofs.Common.{◌≡◌, ◌≢◌, ℕ, zero, suc, ◌+◌, Bool, true, false, List, [], ◌∷◌, length, map, take, refl, sym, ap, subst, ◌∙◌, ◌==◌, ◌%◌}
-use Rattle.std.specs.Prelude.{Option, Some, None, option_map, option_and_then, unwrap_or, not, nat_lt, slice_get, if◌then◌else◌, ◌||◌, ◌&&◌}
+use Rattle.std.proofs.Common.{◌≡◌, ◌≢◌, ℕ, zero, suc, Bool, true, false, List, [], ◌∷◌, length, map, take, refl, sym, ap, subst, ◌==◌, ◌%◌}
+use Rattle.std.specs.Prelude.{Option, Some, None, option_map, unwrap_or, not, nat_lt, slice_get, if◌then◌else◌, ◌||◌}
 use Rattle.std.specs.List.{AllByRecursion}
 use Rattle.std.proofs.lemmas.Option.{none-some, same_Some}
 use Rattle.vg_model.specs.declared.kinds.Kind.{Kind}
@@ -15,17 +15,16 @@ use Rattle.vg_model.specs.declared.routes.RouteTo.{RouteTo}
 use Rattle.vg_model.specs.declared.routes.RouteTo.TheVariants as routes
 use Rattle.vg_model.specs.declared.fates.End.{End}
 use Rattle.vg_model.specs.declared.fates.End.TheVariants as ends
-use Rattle.vg_model.specs.declared.fates.Leg.{Leg}
 use Rattle.vg_model.specs.Bytes.{number16_at}
 use Rattle.vg_model.specs.Header.{verifies}
 use Rattle.vg_model.specs.Packet.{Packet, fresh}
 use Rattle.vg_model.specs.Graph.{Graph, arc, kind_at, pg_input}
 use Rattle.vg_model.specs.Hash.{target_worker}
 use Rattle.vg_model.specs.Route.{best_route}
-use Rattle.vg_model.specs.Visit.{is_foreign, transmit_interface, dropped, next, ethernet_input, header_fault, ip4_input, forwarded, ip4_lookup, sent_over, over_interface, over_adjacency, ip4_rewrite, interface_output, visit_of, ip4_visit, datagram, destination, adjacency_of, version, header_len, total_len, time_to_live}
+use Rattle.vg_model.specs.Visit.{is_foreign, transmit_interface, dropped, next, header_fault, ip4_input, forwarded, over_interface, over_adjacency, visit_of, ip4_visit, datagram, destination, adjacency_of, version, header_len, total_len, time_to_live}
 use Rattle.vg_model.specs.Leg.{Outcome, Way, Move, Onward, Over, handed, move_of, joined, after_visit, leg_within, leg, most_legs, first_slot}
 use Rattle.vg_model.specs.Leg as outcomes
-use Rattle.vg_model.specs.Journey.{Journey, Course, Choice, journey, journeys_from, started, goes_together, finished, first_leg, leg_from, legs_from, end_of}
+use Rattle.vg_model.specs.Journey.{Journey, Course, journey, journeys_from, started, goes_together, finished, first_leg, leg_from, legs_from, end_of}
 use Rattle.vg_model.proofs.Journeys.{map_some, then_some}
 use Rattle.vg_capture.specs.declared.captures.Captured.{Captured}
 use Rattle.vg_walk.specs.Walks.{one_leg}

@@ -1,8 +1,8 @@
 -- Lists of counts, entry by entry.
-use Rattle.std.proofs.Common.{◌≡◌, ℕ, zero, suc, ◌+◌, ◌<◌, ◌≤◌, Bool, true, false, cond, List, [], ◌∷◌, ◌++◌, length, map, take, get_or, refl, sym, ap, subst, ◌∙◌, arith, append-nil, append_assoc}
+use Rattle.std.proofs.Common.{◌≡◌, ℕ, suc, ◌+◌, ◌<◌, ◌≤◌, Bool, true, false, cond, List, [], ◌∷◌, ◌++◌, length, map, take, get_or, refl, sym, ap, ◌∙◌, arith, append-nil, append_assoc}
 use Rattle.std.specs.Prelude.{slice_get, slice_index, slice_index_or, Some, filter, flat_map, nat_lt}
-use Rattle.std.specs.List.{AllByRecursion, enumerate_from, zip}
-use Rattle.std.proofs.lemmas.List.{take_more, map_push, take_all, length-take-le}
+use Rattle.std.specs.List.{enumerate_from, zip}
+use Rattle.std.proofs.lemmas.List.{take_more, map_push, length-take-le}
 use Rattle.std.proofs.lemmas.Bool.{lt-ltb, le-ltb}
 use Rattle.std.proofs.lemmas.List.Concat.{flat_map-append}
 use Rattle.std.proofs.lemmas.Slice.Zip.{length-zip, get_or-zip}
@@ -11,7 +11,6 @@ use Rattle.vg_model.specs.declared.kinds.DropError.{DropError}
 use Rattle.vg_model.specs.declared.kinds.DropError.TheVariants as errors
 use Rattle.vg_model.specs.Errors.{all_errors}
 use Rattle.vg_model.specs.Graph.{Node}
-use Rattle.vg_graph.proofs.ListLemmas.{all_append}
 use Rattle.vgd.specs.Reports.{counted, errors_made, all_made}
 
 -- entries with their numbers, and one more behind them

@@ -1,6 +1,6 @@
 -- The report of a log of a valid graph is lawful.
-use Rattle.std.proofs.Common.{◌≡◌, ◌≢◌, ℕ, zero, suc, ◌+◌, ◌*◌, ◌<◌, ◌≤◌, ◌^◌, Bool, true, false, cond, List, [], ◌∷◌, ◌++◌, length, map, refl, sym, ap, subst, ◌∙◌, arith}
-use Rattle.std.specs.Prelude.{filter, flat_map, count_by, nat_lt, bytes_eq, slice_get, Option, Some, None, IsSome, IfSome, option_map, unwrap_or}
+use Rattle.std.proofs.Common.{◌≡◌, ℕ, zero, suc, ◌+◌, ◌*◌, ◌<◌, ◌≤◌, ◌^◌, Bool, true, false, cond, List, [], ◌∷◌, ◌++◌, length, map, refl, sym, ap, subst, ◌∙◌, arith}
+use Rattle.std.specs.Prelude.{filter, flat_map, nat_lt, bytes_eq, slice_get, Option, Some, None, IsSome, IfSome, option_map, unwrap_or}
 use Rattle.std.specs.List.{AllByRecursion, IsDistinct, enumerate_from, position_from}
 use Rattle.std.proofs.lemmas.Bool.{ltb-true, false≢true}
 use Rattle.std.proofs.lemmas.List.{length-map}
@@ -14,15 +14,12 @@ use Rattle.vg_model.specs.declared.fates.End.TheVariants as fate_ends
 use Rattle.vg_model.specs.declared.fates.Leg.{Leg}
 use Rattle.vg_model.specs.Errors.{error_number, all_errors}
 use Rattle.vg_model.specs.Name.{IsName}
-use Rattle.vg_model.specs.Graph.{Graph, Node, kind_at, pg_input}
-use Rattle.vg_model.specs.Valid.{IsValid}
-use Rattle.vg_model.specs.Edit.{most_nodes, most_interfaces}
+use Rattle.vg_model.specs.Graph.{Graph, Node, pg_input}
 use Rattle.vg_model.specs.Journey.{Journey, end_of}
 use Rattle.vg_model.specs.Count.{node_count, error_count, interface_count, is_drop, is_sent_on}
 use Rattle.vg_model.proofs.Journeys.{map_some}
 use Rattle.vg_report.specs.declared.reports.Report.{Report}
-use Rattle.vg_report.specs.declared.reports.PacketLine.{PacketLine}
-use Rattle.vg_report.specs.Lawful.{AreNamed, AreErrorsFrom, IsDeclared, IsEndLawful, IsPacketLawful, IsLawful, names, number_of, error_place}
+use Rattle.vg_report.specs.Lawful.{AreErrorsFrom, IsDeclared, IsEndLawful, IsPacketLawful, IsLawful, names, number_of, error_place}
 use Rattle.vg_walk.specs.declared.logs.Log.{Log}
 use Rattle.vg_walk.specs.Walks.{IsLogOf, IsEndIn, only_leg}
 use Rattle.vgd.specs.Command.{plain_run}

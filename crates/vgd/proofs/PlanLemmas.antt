@@ -1,8 +1,7 @@
 -- Edits of a whole graph, by its lists and its table of routes.
-use Rattle.std.proofs.Common.{◌≡◌, ℕ, zero, suc, ◌+◌, ◌<◌, ◌≤◌, ◌||◌, ◌==◌, Bool, true, false, List, [], ◌∷◌, ◌++◌, length, refl, sym, ap, subst, ◌∙◌, ◌≢◌, ◌⊎◌, inl, inr, arith}
-use Rattle.std.specs.Prelude.{Option, Some, None, ok_or, Result, Ok, Err, IfErr, IsErr, IsOk, MatchOption, OnErr, IfOk, remove, replicate, is_some, slice_get, slice_set, nat_le, if◌then◌else◌}
+use Rattle.std.proofs.Common.{◌≡◌, ℕ, zero, suc, ◌≤◌, ◌||◌, ◌==◌, Bool, true, false, List, [], ◌∷◌, length, refl, sym, ap, subst, ◌∙◌, ◌⊎◌, inl, inr, arith}
+use Rattle.std.specs.Prelude.{Option, Some, None, ok_or, Result, Ok, Err, IfErr, IsErr, IsOk, MatchOption, OnErr, IfOk, remove, replicate, is_some, slice_get, slice_set}
 use Rattle.std.specs.List.{AllByRecursion, list_any}
-use Rattle.std.proofs.lemmas.Bool.Decides.{nat_tests}
 use Rattle.vg_model.specs.declared.edits.Edit.{Edit}
 use Rattle.vg_model.specs.declared.edits.Edit.TheVariants as edits
 use Rattle.vg_model.specs.declared.edits.EditLine.{EditLine}
@@ -16,10 +15,9 @@ use Rattle.vg_model.specs.declared.kinds.Adjacency.{Adjacency}
 use Rattle.vg_model.specs.declared.routes.RouteWord.{RouteWord}
 use Rattle.vg_model.specs.declared.routes.RouteWord.TheVariants as words
 use Rattle.vg_model.specs.Graph.{Graph, Node, next_nodes, slots, error_drop}
-use Rattle.vg_model.specs.Valid.{IsValid, IsRouteWithin}
-use Rattle.vg_model.specs.Edit.{Cause, Edited, TooMany, ◌>>=◌, most_interfaces, most_nodes, most_adjacencies, most_routes, node_named, interface_named, adjacency_named, place_of, placed, refused_if, is_source, DoubleName, UnknownNode, UnknownSlot, BadTarget, Cycle, UnknownInterface, leads, with_interface, with_node, with_arc, with_adjacency, UnknownAdjacency, target_of, route_place, apply, apply_all}
-use Rattle.vg_model.specs.Start.{start_graph}
-use Rattle.vg_model.specs.Generations.{Graphs, after_groups, generations}
+use Rattle.vg_model.specs.Valid.{IsRouteWithin}
+use Rattle.vg_model.specs.Edit.{Cause, Edited, ◌>>=◌, most_interfaces, most_nodes, most_adjacencies, most_routes, node_named, interface_named, adjacency_named, place_of, placed, refused_if, is_source, DoubleName, UnknownNode, UnknownSlot, BadTarget, Cycle, UnknownInterface, leads, with_interface, with_node, with_arc, with_adjacency, UnknownAdjacency, target_of, route_place, apply}
+use Rattle.vg_model.specs.Generations.{Graphs, generations}
 use Rattle.vg_script.specs.declared.errors.ScriptCause.{ScriptCause}
 use Rattle.vg_script.specs.declared.errors.ScriptCause.TheVariants as script_causes
 use Rattle.vg_script.specs.declared.errors.ScriptError.{ScriptError}

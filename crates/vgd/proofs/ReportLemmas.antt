@@ -1,6 +1,6 @@
 -- The report of a log is that of its journeys.
-use Rattle.std.proofs.Common.{◌≡◌, ℕ, zero, suc, ◌+◌, ◌<◌, ◌≤◌, List, [], ◌∷◌, ◌++◌, length, map, refl, sym, ap, subst, ◌∙◌, arith}
-use Rattle.std.specs.Prelude.{filter, flat_map, nat_lt, slice_index, slice_index_or, Some, None}
+use Rattle.std.proofs.Common.{◌≡◌, ℕ, zero, suc, ◌+◌, ◌<◌, List, [], ◌∷◌, ◌++◌, length, map, refl, sym, ap, subst, ◌∙◌, arith}
+use Rattle.std.specs.Prelude.{filter, flat_map, nat_lt, slice_index, slice_index_or, None}
 use Rattle.std.specs.List.{AllByRecursion, enumerate_from, zip}
 use Rattle.std.proofs.lemmas.List.{length-map}
 use Rattle.std.proofs.lemmas.List.FromFn.{length-enumerate_from}
@@ -9,7 +9,7 @@ use Rattle.vg_model.specs.declared.fates.Fate.{Fate}
 use Rattle.vg_model.specs.declared.fates.Leg.{Leg}
 use Rattle.vg_model.specs.Errors.{all_errors}
 use Rattle.vg_model.specs.Graph.{Graph, Node}
-use Rattle.vg_model.specs.Journey.{Journey, Choice, fate_of, fates, end_of}
+use Rattle.vg_model.specs.Journey.{Journey, Choice, fate_of, end_of}
 use Rattle.vg_model.specs.Count.{node_count, error_count, interface_count}
 use Rattle.vg_capture.specs.declared.captures.Captured.{Captured}
 use Rattle.vg_report.specs.declared.reports.Report.{Report}
@@ -17,8 +17,8 @@ use Rattle.vg_report.specs.declared.reports.PacketLine.{PacketLine}
 use Rattle.vg_walk.specs.declared.logs.Log.{Log}
 use Rattle.vg_walk.specs.Walks.{IsLogOf, IsEndIn, one_leg, only_leg}
 use Rattle.vgd.specs.Command.{plain_run}
-use Rattle.vgd.specs.Output.{report_of, node_errors, packet_line_of, choices_of}
-use Rattle.vgd.specs.Reports.{counted, errors_made, all_made, line_of_fate}
+use Rattle.vgd.specs.Output.{report_of, node_errors, packet_line_of}
+use Rattle.vgd.specs.Reports.{counted, all_made, line_of_fate}
 use Rattle.vgd.proofs.CountLemmas.{made_entry}
 
 -- what stands at a place of what is made of each number

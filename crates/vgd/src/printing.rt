@@ -1,5 +1,5 @@
 //! Printing to the sink.
-ghost use Rattle.std.specs.Prelude.{◌≤◌, OnOk, OnErr};
+ghost use Rattle.std.specs.Prelude.{OnOk, OnErr};
 ghost use Rattle.vg_outside.specs.Files.{Rose};
 ghost use Rattle.vgd.specs.Run.{Appends, AppendsFront};
 

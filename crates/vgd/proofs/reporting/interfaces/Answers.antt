@@ -1,6 +1,4 @@
 use Rattle.vg_graph.proofs.ListLemmas.{all_append}
-use Rattle.std.specs.Prelude.{Some, slice_get}
-use Rattle.std.proofs.Common.{◌≡◌}
 use Rattle.vg_model.specs.declared.kinds.Interface.{Interface}
 use Rattle.vgd.proofs.CountLemmas.{counted_more}
 use Rattle.vgd.proofs.reporting.interfaces.Goals as goal

@@ -1,8 +1,4 @@
-use Rattle.std.proofs.Common.{◌≡◌, ℕ, List, ◌++◌, take, map}
-use Rattle.std.specs.Prelude.{filter, nat_lt}
-use Rattle.std.specs.List.{zip}
-use Rattle.vg_model.specs.declared.kinds.DropError.{DropError}
-use Rattle.vg_model.specs.Errors.{all_errors}
+use Rattle.std.proofs.Common.{◌≡◌, ◌++◌}
 use Rattle.vgd.proofs.CountLemmas.{first_errors}
 use Rattle.vgd.proofs.reporting.put_errors.Given as goal
 

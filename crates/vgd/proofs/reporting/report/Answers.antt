@@ -1,12 +1,8 @@
-use Rattle.std.proofs.Common.{◌≡◌, List, ℕ, [], length, map, ap, ◌∙◌}
+use Rattle.std.proofs.Common.{◌≡◌, [], length, ap, ◌∙◌}
 use Rattle.vg_model.specs.declared.kinds.Interface.{Interface}
-use Rattle.vg_model.specs.declared.kinds.DropError.{DropError}
 use Rattle.vg_model.specs.Graph.{Node}
 use Rattle.vgd.specs.Reports.{counted, all_made}
 use Rattle.vgd.proofs.ReportLemmas.{report_is, send_for_each, visit_for_each, drops_for_each, fates_end}
-use Rattle.vgd.proofs.CongestionLemmas.{own_journeys}
-use Rattle.vgd.proofs.LawfulLemmas.{errors_lawful}
-use Rattle.vgd.proofs.ExpectedLemmas.{due_expected}
 use Rattle.vgd.proofs.reporting.report.Goals as goal
 
 pub interfaces-requires : goal.interfaces-requires

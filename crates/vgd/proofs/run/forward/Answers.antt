@@ -1,11 +1,8 @@
-use Rattle.std.proofs.Common.{◌≡◌, ◌≤◌, ℕ, List, [], ◌∷◌, length, map, ap, subst, ◌∙◌, sym, arith}
-use Rattle.std.specs.Prelude.{Some}
-use Rattle.vg_model.specs.Visit.{ip4_visit}
-use Rattle.vg_model.specs.Journey.{Journey, journeys}
+use Rattle.std.proofs.Common.{◌≡◌, ℕ, List, [], ◌∷◌, ap, subst, ◌∙◌, arith}
 use Rattle.vg_capture.specs.declared.captures.Captured.{Captured}
 use Rattle.vg_capture.specs.declared.captures.Sent.{Sent}
 use Rattle.vg_capture.specs.Savefile.{savefile, pairs}
-use Rattle.vg_walk.specs.Walks.{AreWalked, frames, one_leg}
+use Rattle.vg_walk.specs.Walks.{AreWalked}
 use Rattle.vgd.specs.Command.{plain_run}
 use Rattle.vgd.specs.Output.{report_of}
 use Rattle.vgd.proofs.CongestionLemmas.{own_journeys}
