@@ -1,18 +1,17 @@
 -- Worked examples of scripts, computed from the definitions.
-use Rattle.std.proofs.Common.{◌≡◌, ℕ, suc, zero, ◌+◌, true, false, List, [], ◌∷◌, ◌++◌, refl, map, length, replicate}
+use Rattle.std.proofs.Common.{◌≡◌, ℕ, suc, zero, ◌+◌, true, false, List, [], ◌∷◌, ◌++◌, refl, map, replicate}
 use Rattle.std.specs.Fmt.{digits}
-use Rattle.std.specs.Prelude.{codes, decimal, flat_map, Option, Some, None, Result, Ok, Err}
+use Rattle.std.specs.Prelude.{codes, decimal, flat_map, Option, Some, None, Ok, Err}
 use Rattle.vg_model.specs.declared.edits.Edit.{Edit}
 use Rattle.vg_model.specs.declared.edits.Edit.TheVariants as edits
 use Rattle.vg_model.specs.declared.edits.EditLine.{EditLine}
-use Rattle.vg_model.specs.declared.kinds.HashKind.TheVariants.{Flow, Src, Dst}
+use Rattle.vg_model.specs.declared.kinds.HashKind.TheVariants.{Dst}
 use Rattle.vg_model.specs.declared.kinds.Kind.TheVariants as kinds
 use Rattle.vg_model.specs.declared.names.Mac.{Mac}
 use Rattle.vg_model.specs.declared.routes.RouteWord.TheVariants as targets
 use Rattle.vg_model.specs.Edit.{apply_all}
 use Rattle.vg_model.specs.Start.{start_graph}
 use Rattle.vg_script.specs.declared.errors.ScriptCause.TheVariants as causes
-use Rattle.vg_script.specs.declared.errors.ScriptError.{ScriptError}
 use Rattle.vg_script.specs.declared.scripts.Script.{Script}
 use Rattle.vg_script.specs.Causes.{cause_of, cause_word}
 use Rattle.vg_script.specs.Classes.{prefix}

@@ -2,7 +2,6 @@
 -- project's profile).
 use Rattle.std.specs.Prelude.{◌≡◌, ℕ, suc, ◌+◌, Bool, true, false, not, nat_lt, List, [], ◌∷◌, ◌++◌, length, ok_or, Result, Ok, Err, if◌then◌else◌}
 use Rattle.std.specs.List.{list_all}
-use Rattle.vg_model.specs.declared.edits.Edit.{Edit}
 use Rattle.vg_model.specs.declared.edits.EditLine.{EditLine}
 use Rattle.vg_script.specs.declared.errors.ScriptCause.{ScriptCause}
 use Rattle.vg_script.specs.declared.errors.ScriptCause.TheVariants as causes
@@ -11,7 +10,7 @@ use Rattle.vg_script.specs.declared.scripts.Block.{Block}
 use Rattle.vg_script.specs.declared.scripts.Block.TheVariants as blocks
 use Rattle.vg_script.specs.declared.scripts.Script.{Script}
 use Rattle.vg_script.specs.Lines.{lines, without_comment, is_allowed, words}
-use Rattle.vg_script.specs.Statements.{Words, Form, Row, row_of, Statement, Change, At, Process, Then, End, Place, Anywhere, OutsideBlocks, InAProcess, InABlock}
+use Rattle.vg_script.specs.Statements.{Words, Form, row_of, Statement, Change, At, Process, Then, End, Place, Anywhere, OutsideBlocks, InAProcess, InABlock}
 
 -- the largest script, in bytes
 abbrev pub largest_script : ℕ

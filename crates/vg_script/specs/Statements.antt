@@ -1,6 +1,6 @@
 -- The statements of a script: the words of each, and the cause of the first word that isn't as its statement needs (this
 -- project's profile).
-use Rattle.std.specs.Prelude.{ℕ, Bool, true, false, List, [], ◌∷◌, codes, bytes_eq, find, Option, Some, None, ok_or, Result, Ok, Err, if◌then◌else◌}
+use Rattle.std.specs.Prelude.{ℕ, Bool, true, false, List, [], ◌∷◌, codes, bytes_eq, find, Option, Some, None, Result, Ok, Err, if◌then◌else◌}
 use Rattle.vg_model.specs.declared.edits.Edit.{Edit}
 use Rattle.vg_model.specs.declared.edits.Edit.TheVariants as edits
 use Rattle.vg_model.specs.declared.kinds.Kind.{Kind}
