@@ -2,7 +2,6 @@
 use Rattle.std.proofs.Common.{◌≡◌, ℕ, zero, suc, ◌+◌, ◌<◌, ◌≤◌, ◌^◌, List, [], ◌∷◌, length, get_or, refl, sym, ap, subst, ◌∙◌, arith}
 use Rattle.std.specs.Prelude.{Option, Some, None, option_map, unwrap_or, slice_get}
 use Rattle.std.specs.List.{AllByRecursion}
-use Rattle.std.proofs.Math.ListN.{set}
 use Rattle.std.proofs.lemmas.List.{length-set}
 use Rattle.std.proofs.Math.Nat.{mod-one}
 use Rattle.std.proofs.lemmas.Option.{none-some, same_Some, slice_get_within}
@@ -14,8 +13,8 @@ use Rattle.vg_model.specs.declared.fates.End.TheVariants as ends
 use Rattle.vg_model.specs.Packet.{Packet}
 use Rattle.vg_model.specs.Graph.{Graph, Node, kind_at, arc}
 use Rattle.vg_model.specs.Visit.{Visit, ip4_visit}
-use Rattle.vg_model.specs.Leg.{Outcome, Way, Move, Onward, Over, move_of, joined, after_visit, ends_at, leg_within, leg}
-use Rattle.vg_model.specs.Valid.{IsValid, IsTarget, IsPacket, IsStepOf, IsVisitOf, HasArc}
+use Rattle.vg_model.specs.Leg.{Way, Move, Onward, Over, move_of, joined, after_visit, ends_at, leg_within}
+use Rattle.vg_model.specs.Valid.{IsValid, IsTarget, IsPacket, IsStepOf, IsVisitOf}
 use Rattle.vg_model.proofs.KindLaws.{ip4_laws}
 use Rattle.vg_model.proofs.LegLemmas.{leg_step, move_arc}
 use Rattle.vg_model.proofs.LegEnds.{leg_some, arc_target, kind_some}

@@ -6,7 +6,7 @@ use Rattle.std.proofs.Math.Nat.{mod-one}
 use Rattle.std.proofs.lemmas.Bool.{cond_both}
 use Rattle.std.proofs.lemmas.Option.{same_Some, slice_get_within}
 use Rattle.vg_model.proofs.Journeys.{map_some, then_some}
-use Rattle.std.proofs.lemmas.List.{take_more, map-append, length-map, length-take-le, length-set, length-replicate, take_all}
+use Rattle.std.proofs.lemmas.List.{take_more, map-append, length-take-le, length-set, length-replicate, take_all}
 use Rattle.std.proofs.lemmas.List.Elements.{All-append, filter_map-append}
 use Rattle.vg_model.specs.declared.fates.End.{End}
 use Rattle.vg_model.specs.declared.fates.End.TheVariants as ends
@@ -15,8 +15,8 @@ use Rattle.vg_model.specs.declared.kinds.Kind.TheVariants.{ErrorDrop}
 use Rattle.vg_model.specs.Packet.{fresh}
 use Rattle.vg_model.specs.Graph.{Graph, Node, error_drop}
 use Rattle.vg_model.specs.Visit.{ip4_visit}
-use Rattle.vg_model.specs.Leg.{Way, Outcome}
-use Rattle.vg_model.specs.Journey.{Journey, journey, journeys_from, journeys, first_leg, last_leg, finished, goes_together, end_of, fate_of, fates, sent, sent_of}
+use Rattle.vg_model.specs.Leg.{Way}
+use Rattle.vg_model.specs.Journey.{Journey, journey, journeys_from, journeys, first_leg, last_leg, goes_together, end_of, fate_of, fates, sent, sent_of}
 use Rattle.vg_model.specs.Count.{trace, drop_visit, node_count, error_count, interface_count}
 use Rattle.vg_model.specs.Errors.{all_errors, error_number}
 use Rattle.vg_model.specs.Valid.{IsValid}
@@ -26,7 +26,7 @@ use Rattle.vg_capture.specs.Savefile.{pairs, AreWithin}
 use Rattle.vg_walk.specs.declared.logs.Counts.{Counts}
 use Rattle.vg_walk.specs.declared.logs.Log.{Log}
 use Rattle.vg_walk.specs.declared.logs.Walked.{Walked}
-use Rattle.vg_walk.specs.Walks.{one_leg, only_leg, frames, IsEndIn, AreCounts, IsLogOf, AreWalked}
+use Rattle.vg_walk.specs.Walks.{one_leg, only_leg, frames, IsEndIn, AreWalked}
 use Rattle.vg_walk.specs.Tallies.{more_at, drops_after, sends_after, AreAtMost, AreCountsOf, HasRoom, IsCounted, count_of_errors, most_visits, one_more_at}
 use Rattle.vg_walk.specs.Legs.{IsWalk, IsSentOf, outcome_of, fate_with, pair_of}
 use Rattle.vg_walk.proofs.TallyLemmas.{all_same, at_most_weaker, at_most_one_more, at_most_more_at, length-more_at, zeros_at_most, all_replicate, all_set}

@@ -1,5 +1,5 @@
 -- A valid graph with routes.
-use Rattle.std.proofs.Common.{◌≡◌, ap, length, List, map}
+use Rattle.std.proofs.Common.{length, List, map}
 use Rattle.std.specs.List.{AllByRecursion, IsDistinct}
 use Rattle.vg_model.specs.declared.routes.Prefix.{Prefix}
 use Rattle.vg_model.specs.declared.routes.RouteTo.{RouteTo}

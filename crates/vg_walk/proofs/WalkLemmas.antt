@@ -1,5 +1,5 @@
 -- The walk of one packet on the one worker.
-use Rattle.std.proofs.Common.{◌≡◌, ℕ, suc, ◌+◌, ◌<◌, ◌≤◌, ◌^◌, true, false, List, [], ◌∷◌, length, refl, sym, ap, subst, ◌∙◌, arith}
+use Rattle.std.proofs.Common.{◌≡◌, ℕ, suc, ◌+◌, ◌<◌, ◌≤◌, ◌^◌, true, false, List, length, refl, sym, ap, subst, ◌∙◌, arith}
 use Rattle.std.specs.Prelude.{Option, Some, None, option_map, option_and_then, IfSome}
 use Rattle.std.specs.List.{AllByRecursion}
 use Rattle.std.proofs.lemmas.Bool.{lt-ltb, le-ltb}
@@ -8,12 +8,10 @@ use Rattle.vg_model.specs.declared.fates.End.{End}
 use Rattle.vg_model.specs.declared.fates.End.TheVariants as ends
 use Rattle.vg_model.specs.Packet.{Packet, fresh}
 use Rattle.vg_model.specs.Graph.{Graph, arc}
-use Rattle.vg_model.specs.Visit.{ip4_visit}
-use Rattle.vg_model.specs.Leg.{Way, Dropped, after_visit, ends_at, leg}
-use Rattle.vg_model.specs.Journey.{first_leg, sent_as}
+use Rattle.vg_model.specs.Leg.{Way, Dropped, after_visit, ends_at}
+use Rattle.vg_model.specs.Journey.{sent_as}
 use Rattle.vg_model.specs.Valid.{AreBytes, IsPacket, IsValid}
 use Rattle.vg_capture.specs.declared.captures.Sent.{Sent}
-use Rattle.vg_walk.specs.declared.logs.Walked.{Walked}
 use Rattle.vg_walk.specs.Tallies.{one_more_at, more_at}
 use Rattle.vg_walk.specs.Legs.{IsLeg, IsWalk, IsSentOf, only_leg_from, outcome_of, pair_of}
 use Rattle.vg_walk.proofs.LegLemmas.{room_after}

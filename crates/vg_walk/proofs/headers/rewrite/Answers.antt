@@ -1,9 +1,7 @@
-use Rattle.std.proofs.Common.{◌≡◌, ℕ, ◌+◌, ◌-◌, ◌≤◌, List, ◌++◌, length, take, drop, sym, ap, subst, ◌∙◌, arith, length-drop, length-take-le}
-use borrow.Rule.Slice.PartMut.{put_mid}
+use Rattle.std.proofs.Common.{ℕ, List, take, drop, ap, ◌∙◌}
 use Rattle.vg_model.specs.Bytes.{overwritten}
 use Rattle.vg_model.specs.Header.{lowered}
-use Rattle.vg_model.specs.Visit.{header_fault, header_len}
-use Rattle.vg_model.proofs.Rewrites.{Passes, passes_of}
+use Rattle.vg_model.specs.Visit.{header_len}
 use Rattle.vg_walk.proofs.HeaderLemmas.{lowerable_part, with_header, address_len, address_len_behind}
 use Rattle.vg_walk.proofs.headers.rewrite.Goals as goal
 

@@ -1,4 +1,3 @@
-use Rattle.std.proofs.Common.{◌∙◌, ap}
 use Rattle.vg_walk.proofs.visits.visit.Goals as goal
 
 pub returns-in-Ip4Lookup : goal.returns-in-Ip4Lookup

@@ -1,4 +1,4 @@
-use Rattle.std.proofs.Common.{◌∙◌, ap, subst, sym, arith}
+use Rattle.std.proofs.Common.{subst, sym, arith}
 use Rattle.vg_model.specs.Valid.{IsPacket}
 use Rattle.vg_model.proofs.LegEnds.{arc_target}
 use Rattle.vg_packet.proofs.SumLemmas.{bytes_of_reads}

@@ -1,4 +1,3 @@
-use Rattle.vg_model.specs.Graph.{Graph}
 use Rattle.vg_walk.specs.Packets.{packet_of}
 use Rattle.vg_walk.specs.Walks.{with_routes}
 use Rattle.vg_walk.proofs.LegLemmas.{IsOnTheWay, visits_left}

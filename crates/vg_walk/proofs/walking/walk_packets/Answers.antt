@@ -1,10 +1,9 @@
-use Rattle.std.proofs.Common.{◌≡◌, ◌≤◌, length, replicate, refl, sym, ap, ◌∙◌, arith}
+use Rattle.std.proofs.Common.{◌≡◌, replicate, refl, sym, ap, ◌∙◌, arith}
 use Rattle.std.specs.Vec.{with_items}
 use Rattle.std.proofs.lemmas.List.{with_items_is}
 use Rattle.vg_model.specs.Graph.{Graph}
 use Rattle.vg_capture.specs.declared.captures.Captured.{Captured}
 use Rattle.vg_model.specs.Count.{drop_visit}
-use Rattle.vg_walk.specs.declared.logs.Counts.{Counts}
 use Rattle.vg_walk.specs.Walks.{with_routes}
 use Rattle.vg_walk.specs.Tallies.{count_of_errors, more_at}
 use Rattle.vg_walk.specs.Legs.{IsWalk}
