@@ -1,42 +1,85 @@
 -- What contracts say of a seat.
-use Rattle.std.specs.Prelude.{◌≡◌, ℕ}
+use Rattle.std.specs.Prelude.{◌≡◌, ℕ, ◌+◌, ◌<◌, ◌≤◌, ◌⊎◌, Bool, true, false, List, [], ◌∷◌, Option, None, length, slice_index}
+use Rattle.std.proofs.Common.{zero, suc}
+use mathlib.Core.Option.{some}
+use lib.ListN.{get_elem?}
 use Rattle.atomic_table.specs.declared.shared.Seat.{Seat}
+use Rattle.vg_barrier.specs.declared.parcel.Stamped.{Stamped}
 use Rattle.vg_barrier.specs.declared.views.MainPhase.{MainPhase}
 use Rattle.vg_barrier.specs.declared.views.MainPhase.TheVariants.{Idle}
 use Rattle.vg_barrier.specs.declared.views.WorkerPhase.{WorkerPhase}
-use Rattle.vg_barrier.specs.declared.views.WorkerPhase.TheVariants.{Running}
+use Rattle.vg_barrier.specs.declared.views.WorkerPhase.TheVariants.{Running, Called, Parked, Leaving}
 use Rattle.vg_barrier.specs.declared.views.MainView.{MainView}
 use Rattle.vg_barrier.specs.declared.views.WorkerView.{WorkerView}
 use Rattle.vg_barrier.specs.declared.views.View.{View}
 use Rattle.vg_barrier.specs.declared.views.View.TheVariants.{Main, Worker}
-use Rattle.vg_barrier.specs.Steps.{main_me, worker_me}
 
 -- a place in a barrier
-abbrev pub Place : Type 0
-Place = Seat (Unit {0}) View
+abbrev pub Place : Type 0 → Type 0 → Type 0
+Place P B = Seat (Option (Stamped P)) (View B)
 
--- what main knows. A worker's place has no view of main's: a stand-in is there, which no contract meets
-abbrev pub main_of : View → MainView
-main_of (Main m) = m
-main_of (Worker v) = record { phase = Idle; stamp = 0; made = 0; read = 0; steps = 0 }
+-- whether a worker has its parcel, between its calls
+abbrev pub has_parcel : WorkerPhase → Bool
+has_parcel Running = true
+has_parcel Called = true
+has_parcel Parked = false
+has_parcel Leaving = false
 
--- what a worker knows, likewise
-abbrev pub worker_of : View → WorkerView
-worker_of (Main m) = record { number = 0; phase = Running; read = 0; steps = 0 }
-worker_of (Worker v) = v
+module _ {B : Type 0} where
+  -- what main knows. A worker's place has no view of main's: a stand-in is there, which no contract meets
+  abbrev pub main_of : View B → MainView B
+  main_of (Main m) = m
+  main_of (Worker v) = record { book = v.book; phase = Idle; stamp = 0; made = 0; read = 0; steps = 0; released = 0; marks = []; with = 0; returning = false; back = 0 }
 
--- what main knows, at its place
-abbrev pub main_view : Place → MainView
-main_view p = main_of p.me.0
+  -- what a worker knows, likewise
+  abbrev pub worker_of : View B → WorkerView B
+  worker_of (Main m) = record { book = m.book; number = 0; phase = Running; read = 0; steps = 0; has = false; stamp = 0; mark = 0; generation = 0 }
+  worker_of (Worker v) = v
 
--- what a worker knows, at its place
-abbrev pub worker_view : Place → WorkerView
-worker_view p = worker_of p.me.0
+module _ {P : Type 0} where
+  -- the generation of the first parcel, where there is one
+  abbrev pub first_of : (P → ℕ) → List P → ℕ
+  first_of f [] = 0
+  first_of f (p ∷ ps) = f p
 
--- this is main's place, in this phase, with this stamp, and so many workers are made
-abbrev pub IsMain : Place → MainPhase → ℕ → ℕ → Type 0
-IsMain p phase stamp made = let m = main_view p in (p.me ≡ main_me m) × (m.phase ≡ phase) × (m.stamp ≡ stamp) × (m.made ≡ made)
+  -- the slots below n, which are empty: the last one comes first
+  abbrev pub empties : ℕ → List (ℕ × Option (Stamped P))
+  empties zero = []
+  empties (suc n) = (n, None) ∷ empties n
 
--- this is a worker's place, in this phase
-abbrev pub IsWorker : Place → WorkerPhase → Type 0
-IsWorker p phase = let v = worker_view p in (p.me ≡ worker_me v) × (v.phase ≡ phase)
+module _ {P B : Type 0} where
+  -- what main knows, at its place
+  abbrev pub main_view : Place P B → MainView B
+  main_view s = main_of s.me.0
+
+  -- what a worker knows, at its place
+  abbrev pub worker_view : Place P B → WorkerView B
+  worker_view s = worker_of s.me.0
+
+  -- this is main's place, in this phase, with the slots of the n parcels that it has
+  abbrev pub IsMain : Place P B → MainPhase → ℕ → Bool → Type 0
+  IsMain s phase n returning = let m : MainView B = main_view s in (s.me ≡ (Main m, empties n)) × (m.phase ≡ phase) × (m.with ≡ n) × (m.returning ≡ returning) × (length m.marks ≡ m.made)
+
+  -- main's own numbers at this place: its releases, and the workers, of which there are 1 to 8, each with a slot
+  pub record Numbers (s : Place P B) (releases workers : ℕ) : Type 0 where
+    pub stamp : releases ≡ (main_view s).stamp
+    pub made : workers ≡ (main_view s).made
+    pub slots : workers ≡ s.table_id.slots
+    pub few : workers ≤ 8
+    pub some_made : 0 < workers
+
+  -- this is a worker's place, in this phase, with these slots
+  abbrev pub IsWorker : Place P B → WorkerPhase → List (ℕ × Option (Stamped P)) → Type 0
+  IsWorker s phase cs = let v : WorkerView B = worker_view s in (s.me ≡ (Worker v, cs)) × (v.phase ≡ phase) × (v.has ≡ has_parcel phase)
+
+  -- a worker's own number at this place, which is its slot's
+  abbrev pub HasNumber : Place P B → ℕ → Type 0
+  HasNumber s number = (number ≡ (worker_view s).number) × (number < s.table_id.slots) × (number < 8)
+
+  -- the parcels fit the book of main's view, have the marks that it knows, and this generation
+  abbrev pub Whole : (P → B → Type 0) → (P → ℕ) → (P → ℕ) → MainView B → ℕ → List P → Type 0
+  Whole fits mark generation m g parcels = (k : ℕ) (p : P) → get_elem? parcels k ≡ some p → fits p m.book × (mark p ≡ slice_index m.marks k) × (generation p ≡ g)
+
+  -- main may give the parcels back: they are whole, of one generation, which is that of the last release or the next
+  abbrev pub MayReturn : (P → B → Type 0) → (P → ℕ) → (P → ℕ) → MainView B → List P → Type 0
+  MayReturn fits mark generation m parcels = let g : ℕ = first_of generation parcels in Whole fits mark generation m g parcels × ((g ≡ m.released) ⊎ (g ≡ m.released + 1))

@@ -1,71 +1,92 @@
 //! Main's side of a barrier.
-ghost use Rattle.std.specs.Prelude.{◌≡◌, ◌+◌, ◌^◌, ◌<◌};
-ghost use Rattle.vg_barrier.specs.Seats.{IsMain, main_view};
+ghost use Rattle.std.specs.Prelude.{◌≡◌, ◌+◌, ◌^◌, ◌<◌, ◌≤◌, false, [], length, slice_get, vec_len, vec_capacity, Some};
+ghost use Rattle.vg_barrier.specs.Seats.{IsMain, Numbers, MayReturn, main_view};
 ghost use Rattle.vg_barrier.specs.Barrier.{IsSeatOf};
-ghost use Rattle.vg_barrier.specs.Steps.{asked, released};
+ghost use Rattle.vg_barrier.specs.Steps.{asked};
 ghost use Rattle.vg_barrier.specs.declared.views.MainPhase.TheVariants.{Idle as is_idle, Asked as is_asked, Holding as is_holding, Clearing as is_clearing};
 
 use crate::barrier::{ARRIVALS, Barrier, REQUEST};
+use crate::holding::{return_all, take_all};
+use crate::parcel::Parcel;
 use crate::plays::{Ask, CountArrivals, CountLeavers, Release};
 use crate::views::Place;
 
 /// Main, while all workers run.
 #[derive(Drop)]
-pub struct MainSeat {
+pub struct MainSeat<P: Parcel + Drop> {
     stamp: u64,
-    workers: u64,
-    pub seat: Place,
-    ghost phase: { IsMain seat is_idle stamp workers },
+    workers: usize,
+    // None here, and with room for those of all workers, so that main takes no memory when it holds the barrier.
+    parcels: Vec<P>,
+    pub seat: Place<P>,
+    ghost phase: { IsMain seat is_idle 0 false },
+    ghost numbers: { Numbers seat stamp workers },
+    ghost none: { (parcels.items ≡ []) × (workers ≤ vec_capacity parcels) },
 }
 
 /// Main, after it has asked the workers to park.
 #[derive(Drop)]
-pub struct Asked {
+pub struct Asked<P: Parcel + Drop> {
     stamp: u64,
-    workers: u64,
-    pub seat: Place,
-    ghost phase: { IsMain seat is_asked stamp workers },
+    workers: usize,
+    parcels: Vec<P>,
+    pub seat: Place<P>,
+    ghost phase: { IsMain seat is_asked 0 false },
+    ghost numbers: { Numbers seat stamp workers },
+    ghost none: { (parcels.items ≡ []) × (workers ≤ vec_capacity parcels) },
     ghost room: { stamp < 2 ^ 62 },
 }
 
-/// Main, while all workers are parked.
+/// Main's seat while all workers are parked.
 #[derive(Drop)]
-pub struct Held {
+pub struct HeldSeat<P: Parcel + Drop> {
     stamp: u64,
-    workers: u64,
-    pub seat: Place,
-    ghost phase: { IsMain seat is_holding stamp workers },
+    workers: usize,
+    pub seat: Place<P>,
+    ghost phase: { IsMain seat is_holding workers false },
+    ghost numbers: { Numbers seat stamp workers },
     ghost room: { stamp < 2 ^ 62 },
+}
+
+/// Main, while all workers are parked, with their parcels by number.
+#[derive(Drop)]
+pub struct Held<P: Parcel + Drop> {
+    pub main: HeldSeat<P>,
+    pub parcels: Vec<P>,
+    ghost all: { (length parcels.items ≡ main.workers) × (main.workers ≤ vec_capacity parcels) },
 }
 
 /// Main, after it has released the workers.
 #[derive(Drop)]
-pub struct Clearing {
+pub struct Clearing<P: Parcel + Drop> {
     pub(crate) stamp: u64,
-    pub(crate) workers: u64,
-    pub seat: Place,
-    ghost phase: { IsMain seat is_clearing stamp workers },
+    pub(crate) workers: usize,
+    pub(crate) parcels: Vec<P>,
+    pub seat: Place<P>,
+    ghost phase: { IsMain seat is_clearing 0 false },
+    ghost numbers: { Numbers seat stamp workers },
+    ghost none: { (parcels.items ≡ []) × (workers ≤ vec_capacity parcels) },
 }
 
 /// What [`Asked::poll`] finds.
 #[derive(Drop)]
-pub enum Parking {
+pub enum Parking<P: Parcel + Drop> {
     /// All workers are parked.
-    All(Held),
+    All(Held<P>),
     /// Only `seen` of them have arrived.
-    Wait { asked: Asked, seen: u64 },
+    Wait { asked: Asked<P>, seen: u64 },
 }
 
 /// What [`Clearing::poll`] finds.
 #[derive(Drop)]
-pub enum Cleared {
+pub enum Cleared<P: Parcel + Drop> {
     /// All workers run.
-    Idle(MainSeat),
+    Idle(MainSeat<P>),
     /// `seen` of them have not left yet.
-    Wait { clearing: Clearing, seen: u64 },
+    Wait { clearing: Clearing<P>, seen: u64 },
 }
 
-impl MainSeat {
+impl<P: Parcel + Drop> MainSeat<P> {
     /// How many times main has released the workers.
     pub fn stamp(&self) -> u64
         ensures { result ≡ (main_view self.now.seat).stamp }
@@ -74,7 +95,7 @@ impl MainSeat {
     }
 
     /// Asks the workers to park: the request word becomes odd, one above twice the stamp.
-    pub fn ask(self, barrier: &Barrier) -> Asked
+    pub fn ask(self, barrier: &Barrier<P>) -> Asked<P>
         requires seat { IsSeatOf self.seat barrier.now }
         requires room { (main_view self.seat).stamp < 2 ^ 62 }
         ensures seat { result.seat.table_id ≡ self.seat.table_id }
@@ -83,6 +104,7 @@ impl MainSeat {
         let MainSeat {
             stamp,
             workers,
+            parcels,
             mut seat,
         } = self;
         let words = &barrier.table.shared;
@@ -90,49 +112,56 @@ impl MainSeat {
         Asked {
             stamp,
             workers,
+            parcels,
             seat,
         }
     }
 
     // Main's place, by which it can make no further step.
-    pub(crate) fn into_place(self) -> Place
+    pub(crate) fn into_place(self) -> Place<P>
         ensures { result ≡ self.seat }
     {
         let MainSeat {
             stamp: _,
             workers: _,
+            parcels: _,
             seat,
         } = self;
         seat
     }
 }
 
-impl Asked {
+impl<P: Parcel + Drop> Asked<P> {
     ghost use Rattle.vg_barrier.specs.Answers.{CountsArrived};
 
     /// Reads the arrival count: [`Parking::All`] comes only where it is the number of workers, and [`Parking::Wait`] only
-    /// where it is `seen`, which is less.
-    pub fn poll(self, barrier: &Barrier) -> Parking
+    /// where it is `seen`, which is less. At `All` main has the parcels of all workers: each fits the book, and all have
+    /// the generation of main's last release, which is 0 before the first.
+    pub fn poll(self, barrier: &Barrier<P>) -> Parking<P>
         requires { IsSeatOf self.seat barrier.now }
         ensures { CountsArrived self result }
     {
         let Asked {
             stamp,
             workers,
+            mut parcels,
             mut seat,
         } = self;
         let words = &barrier.table.shared;
         let seen = words.load::<CountArrivals>(&mut seat, ARRIVALS);
-        if seen == workers {
-            Parking::All(Held {
+        if seen == workers as u64 {
+            take_all(barrier, &mut seat, &mut parcels, workers);
+            let main = HeldSeat {
                 stamp,
                 workers,
                 seat,
-            })
+            };
+            Parking::All(Held { main, parcels })
         } else {
             let asked = Asked {
                 stamp,
                 workers,
+                parcels,
                 seat,
             };
             Parking::Wait { asked, seen }
@@ -140,41 +169,69 @@ impl Asked {
     }
 }
 
-impl Held {
-    /// Releases the workers: the stamp rises by one, and the request word becomes even, twice the new stamp.
-    pub fn release(self, barrier: &Barrier) -> Clearing
-        requires { IsSeatOf self.seat barrier.now }
-        ensures seat { result.seat.table_id ≡ self.seat.table_id }
-        ensures step { main_view result.seat ≡ released (main_view self.seat) }
+impl<P: Parcel + Drop> Held<P> {
+    ghost use Rattle.vg_barrier.specs.Answers.{Releases};
+    ghost use Rattle.vg_barrier.specs.Lending.{LendsParcelOf};
+    ghost use Rattle.std.specs.Borrow.{sem};
+
+    /// The parcel of worker `k`.
+    pub fn parcel(&self, k: usize) -> &P
+        requires { k < vec_len self.now.parcels }
+        ensures { Some result.now ≡ slice_get self.now.parcels.items k }
+    {
+        &self.parcels[k]
+    }
+
+    /// The parcel of worker `k`, to be changed.
+    pub fn parcel_mut(&mut self, k: usize) -> &mut P
+        requires { k < vec_len self.old.parcels }
+        ensures* writes_back { sem 𝓛 (LendsParcelOf P.row P.Book.row P.Parcel self.entry k result) }
+        ensures value { Some result.now ≡ slice_get self.old.parcels.items k }
+    {
+        &mut self.parcels[k]
+    }
+
+    /// Releases the workers: each parcel goes back with the stamp plus one; then the stamp rises by one, and the request
+    /// word becomes even, twice the new stamp.
+    pub fn release(self, barrier: &Barrier<P>) -> Clearing<P>
+        requires seat { IsSeatOf self.main.seat barrier.now }
+        requires parcels { MayReturn P.fits P.mark P.generation (main_view self.main.seat) self.parcels.items }
+        ensures { Releases self result }
     {
         let Held {
-            stamp,
-            workers,
-            mut seat,
+            main: HeldSeat {
+                stamp,
+                workers,
+                mut seat,
+            },
+            mut parcels,
         } = self;
         let stamp = stamp + 1;
+        return_all(barrier, &mut seat, &mut parcels, stamp);
         let words = &barrier.table.shared;
         words.store::<Release>(&mut seat, REQUEST, 2 * stamp);
         Clearing {
             stamp,
             workers,
+            parcels,
             seat,
         }
     }
 }
 
-impl Clearing {
+impl<P: Parcel + Drop> Clearing<P> {
     ghost use Rattle.vg_barrier.specs.Answers.{CountsLeft};
 
     /// Reads the arrival count: [`Cleared::Idle`] comes only where it is 0, and [`Cleared::Wait`] only where it is `seen`,
     /// which is more.
-    pub fn poll(self, barrier: &Barrier) -> Cleared
+    pub fn poll(self, barrier: &Barrier<P>) -> Cleared<P>
         requires { IsSeatOf self.seat barrier.now }
         ensures { CountsLeft self result }
     {
         let Clearing {
             stamp,
             workers,
+            parcels,
             mut seat,
         } = self;
         let words = &barrier.table.shared;
@@ -183,12 +240,14 @@ impl Clearing {
             Cleared::Idle(MainSeat {
                 stamp,
                 workers,
+                parcels,
                 seat,
             })
         } else {
             let clearing = Clearing {
                 stamp,
                 workers,
+                parcels,
                 seat,
             };
             Cleared::Wait { clearing, seen }

@@ -1,58 +1,137 @@
 //! How a barrier is made, with main and its workers.
-ghost use Rattle.std.specs.Prelude.{◌≡◌, ◌<◌, ◌≤◌, IfOk};
+ghost use Rattle.std.specs.Prelude.{◌≡◌, ◌<◌, ◌≤◌, [], ◌∷◌, length, map, IfOk};
 ghost use Rattle.vg_barrier.specs.Seats.{main_view, worker_view};
 ghost use Rattle.vg_barrier.specs.Barrier.{IsSeatOf, workers_of};
-ghost use Rattle.vg_barrier.specs.Steps.{main_me, made_one, newcomer};
+ghost use Rattle.vg_barrier.specs.Parcels.{wrapped, AreFirst};
+ghost use Rattle.vg_barrier.specs.Machine.{opening_view};
+ghost use Rattle.vg_barrier.specs.Steps.{made_one, newcomer};
 ghost use Rattle.vg_barrier.specs.declared.views.MainPhase.TheVariants.{Clearing as is_clearing};
 
 use crate::barrier::Barrier;
 use crate::main_seat::{Cleared, Clearing, MainSeat};
+use crate::parcel::{Parcel, Stamped};
 use crate::plays::MakeWorker;
-use crate::views::Place;
+use crate::views::{About, Place};
 use crate::worker_seat::{Check, ParkedSeat, Running};
+use atomic_table::Table;
 use std::alloc::Global;
 use vg_model::Memory;
 
 /// A barrier, with main's seat and the workers', which stand by their numbers.
 #[derive(Drop)]
-pub struct Parts {
-    pub barrier: Barrier,
-    pub main: MainSeat,
-    pub workers: Vec<Running>,
+pub struct Parts<P: Parcel + Drop> {
+    pub barrier: Barrier<P>,
+    pub main: MainSeat<P>,
+    pub workers: Vec<Running<P>>,
 }
 
-impl Barrier {
-    ghost use Rattle.vg_barrier.specs.Making.{IsMade};
+// The parcels' marks.
+fn marks_of<P: Parcel>(alloc: Global, parcels: &Vec<P>) -> Result<Vec<u64>, Memory>
+    ensures { IfOk result (λ marks. marks.items ≡ map P.mark parcels.now.items) }
+{
+    let mut marks = Vec::new(alloc);
+    for parcel in parcels {
+        let Ok(()) = marks.push(parcel.mark()) else {
+            return Err(Memory);
+        };
+    }
+    Ok(marks)
+}
 
-    // The next worker. It is parked.
-    fn make_worker(&self, seat: &mut Place) -> ParkedSeat
+// The words as the table is made: main doesn't ask, all workers count as parked, and the generation is 0.
+fn words_of(alloc: Global, marks: &Vec<u64>) -> Result<Vec<u64>, Memory>
+    ensures { IfOk result (λ words. words.items ≡ 0 ∷ length marks.now.items ∷ 0 ∷ marks.now.items) }
+{
+    let mut words = Vec::new(alloc);
+    for word in [0, marks.len() as u64, 0] {
+        let Ok(()) = words.push(word) else {
+            return Err(Memory);
+        };
+    }
+    for mark in marks {
+        let Ok(()) = words.push(*mark) else {
+            return Err(Memory);
+        };
+    }
+    Ok(words)
+}
+
+// The slots as the table is made: each parcel lies in its own.
+fn slots_of<P: Drop>(alloc: Global, parcels: Vec<P>) -> Result<Vec<Option<Stamped<P>>>, Memory>
+    ensures { IfOk result (λ slots. slots.items ≡ map wrapped parcels.items) }
+{
+    let mut slots = Vec::new(alloc);
+    for parcel in parcels {
+        let Ok(()) = slots.push(Some(Stamped { stamp: 0, parcel })) else {
+            return Err(Memory);
+        };
+    }
+    Ok(slots)
+}
+
+impl<P: Parcel + Drop> Barrier<P>
+where
+    P::Book: Drop,
+{
+    ghost use Rattle.vg_barrier.specs.Making.{IsMade};
+    ghost use Rattle.vg_barrier.specs.declared.views.View.TheVariants.{Main};
+
+    // Main's seat as the table is made, before any worker is.
+    fn lay(alloc: Global, book: P::Book, parcels: Vec<P>) -> Result<(Barrier<P>, Place<P>), Memory>
+        requires few { length parcels.items ≤ 8 }
+        requires first { AreFirst P.fits P.generation book parcels.items }
+        ensures { IfOk result (λ p. (workers_of p.0 ≡ length parcels.items) × IsSeatOf p.1 p.0 × (p.1.me ≡ (opening_view book (map P.mark parcels.items), []))) }
+    {
+        let marks = marks_of(alloc, &parcels)?;
+        let words = words_of(alloc, &marks)?;
+        let slots = slots_of(alloc, parcels)?;
+        let workers = marks.len() as u64;
+        let about = About {
+            workers,
+            marks,
+            book,
+        };
+        match Table::new(alloc, words.as_slice(), slots, &about) {
+            Ok((table, seat)) => Ok((Barrier { table }, seat)),
+            Err(_) => Err(Memory),
+        }
+    }
+
+    // The next worker, which has this number. It is parked.
+    fn make_worker(&self, seat: &mut Place<P>, number: usize) -> ParkedSeat<P>
         requires seat { IsSeatOf seat.old self.now }
-        requires main { (seat.old.me ≡ main_me (main_view seat.old)) × ((main_view seat.old).phase ≡ is_clearing) }
-        requires room { (main_view seat.old).made < workers_of self.now }
+        requires main { (seat.old.me ≡ (Main (main_view seat.old), [])) × ((main_view seat.old).phase ≡ is_clearing) }
+        requires number { (number ≡ (main_view seat.old).made) × (number < workers_of self.now) × (number < 8) }
         ensures seats { IsSeatOf seat.new self.now × IsSeatOf result.seat self.now }
-        ensures main { seat.new.me ≡ main_me (made_one (main_view seat.old)) }
+        ensures main { seat.new.me ≡ (Main (made_one (main_view seat.old)), []) }
         ensures worker { worker_view result.seat ≡ newcomer (main_view seat.old) }
     {
         let seat = self.table.shared.split_seat::<MakeWorker>(seat);
-        ParkedSeat { seat }
+        ParkedSeat { number, seat }
     }
 
-    /// A barrier for this many workers: main is idle, no release was made, and the workers run.
+    /// A barrier with a worker for each of 1 to 8 parcels, which fit the book and have generation 0: main is idle, no
+    /// release was made, and the workers run, by number, each with its parcel.
     ///
     /// # Errors
     ///
     /// [`Memory`] where memory runs out.
-    pub fn new(alloc: Global, workers: u8) -> Result<Parts, Memory>
-        requires { (0 < workers) × (workers ≤ 8) }
-        ensures { IfOk result (λ parts. IsMade parts workers) }
+    pub fn new(alloc: Global, book: P::Book, parcels: Vec<P>) -> Result<Parts<P>, Memory>
+        requires few { (0 < length parcels.items) × (length parcels.items ≤ 8) }
+        requires first { AreFirst P.fits P.generation book parcels.items }
+        ensures { IfOk result (λ parts. IsMade book parcels.items parts) }
     {
-        let Ok(mut running) = Vec::with_capacity(alloc, workers as usize) else {
+        let workers = parcels.len();
+        let Ok(room) = Vec::with_capacity(alloc, workers) else {
             return Err(Memory);
         };
-        let (barrier, mut seat) = Barrier::lay(alloc, workers as u64)?;
-        for _k in 0..workers {
+        let Ok(mut running) = Vec::with_capacity(alloc, workers) else {
+            return Err(Memory);
+        };
+        let (barrier, mut seat) = Barrier::lay(alloc, book, parcels)?;
+        for k in 0..workers {
             // The first request word that a worker reads is 0, so it runs.
-            let Check::Run(worker) = barrier.make_worker(&mut seat).poll(&barrier) else {
+            let Check::Run(worker) = barrier.make_worker(&mut seat, k).poll(&barrier) else {
                 unreachable!()
             };
             let Ok(()) = running.push(worker) else {
@@ -61,7 +140,8 @@ impl Barrier {
         }
         let clearing = Clearing {
             stamp: 0,
-            workers: workers as u64,
+            workers,
+            parcels: room,
             seat,
         };
         // All workers have left, so main finds the count 0. It can't know that: what it knows of workers it has from the

@@ -1,73 +1,147 @@
 //! A worker's side of a barrier.
-ghost use Rattle.vg_barrier.specs.Seats.{IsWorker};
+ghost use Rattle.std.specs.Prelude.{◌≡◌, [], ◌∷◌, None};
+ghost use Rattle.vg_barrier.specs.Seats.{IsWorker, HasNumber, worker_view};
 ghost use Rattle.vg_barrier.specs.Barrier.{IsSeatOf};
 ghost use Rattle.vg_barrier.specs.declared.views.WorkerPhase.TheVariants.{Running as is_running, Parked as is_parked};
 
-use crate::barrier::{ARRIVALS, Barrier, REQUEST};
-use crate::plays::{Arrive, Depart, ReadRequest};
+use crate::barrier::{ARRIVALS, Barrier, GENERATION, MARKS, REQUEST};
+use crate::parcel::{Parcel, Stamped};
+use crate::plays::{Arrive, Depart, ReadRequest, ReceiveParcel, StoreMark};
 use crate::views::Place;
 
-/// A worker that runs.
+/// The seat of a worker that runs.
 #[derive(Drop)]
-pub struct Running {
-    pub seat: Place,
-    ghost phase: { IsWorker seat is_running },
+pub struct RunningSeat<P: Parcel + Drop> {
+    number: usize,
+    stamp: u64,
+    pub seat: Place<P>,
+    ghost phase: { IsWorker seat is_running ((number, None) ∷ []) },
+    ghost numbered: { HasNumber seat number },
+    ghost stamped: { stamp ≡ (worker_view seat).stamp },
 }
 
-/// A worker that is parked: main may hold the barrier.
+/// A worker that runs, with its parcel.
 #[derive(Drop)]
-pub struct ParkedSeat {
-    pub seat: Place,
-    ghost phase: { IsWorker seat is_parked },
+pub struct Running<P: Parcel + Drop> {
+    pub worker: RunningSeat<P>,
+    pub parcel: P,
+}
+
+/// A worker that is parked: its parcel is in its slot, and main may hold the barrier.
+#[derive(Drop)]
+pub struct ParkedSeat<P: Parcel + Drop> {
+    pub(crate) number: usize,
+    pub seat: Place<P>,
+    ghost phase: { IsWorker seat is_parked [] },
+    ghost numbered: { HasNumber seat number },
 }
 
 /// What [`Running::check`] and [`ParkedSeat::poll`] find.
 #[derive(Drop)]
-pub enum Check {
+pub enum Check<P: Parcel + Drop> {
     /// Main doesn't ask, and the worker runs.
-    Run(Running),
+    Run(Running<P>),
     /// Main asks, and the worker is parked.
-    Parked(ParkedSeat),
+    Parked(ParkedSeat<P>),
 }
 
-impl Running {
-    ghost use Rattle.vg_barrier.specs.Answers.{Checks};
+impl<P: Parcel + Drop> Running<P> {
+    ghost use Rattle.vg_barrier.specs.Answers.{Checks, MayGive};
+    ghost use Rattle.vg_barrier.specs.Lending.{LendsParcel};
+    ghost use Rattle.std.specs.Borrow.{sem};
 
-    /// Reads the request word, once a turn: [`Check::Run`] comes only where it is even, and [`Check::Parked`] only where it
-    /// is odd; the worker then counts as arrived.
-    pub fn check(self, barrier: &Barrier) -> Check
-        requires { IsSeatOf self.seat barrier.now }
+    /// The worker's parcel.
+    pub fn parcel(&self) -> &P
+        ensures { result.now ≡ self.now.parcel }
+    {
+        &self.parcel
+    }
+
+    /// The worker's parcel, to be changed.
+    pub fn parcel_mut(&mut self) -> &mut P
+        ensures* writes_back { sem 𝓛 (LendsParcel P.row P.Book.row P.Parcel self.entry result) }
+        ensures value { result.now ≡ self.old.parcel }
+    {
+        &mut self.parcel
+    }
+
+    /// How many times main had released the workers when the parcel came.
+    pub fn stamp(&self) -> u64
+        ensures { result ≡ (worker_view self.now.worker.seat).stamp }
+    {
+        self.worker.stamp
+    }
+
+    /// The worker's parcel, and the worker takes no more part in the barrier.
+    pub fn into_parcel(self) -> P
+        ensures { result ≡ self.parcel }
+    {
+        let Running { worker: _, parcel } = self;
+        parcel
+    }
+
+    /// Reads the request word, once a turn: [`Check::Run`] comes only where it is even, and then it is twice the parcel's
+    /// stamp. [`Check::Parked`] comes only where it is odd; the parcel is then given, and the worker counts as arrived.
+    pub fn check(self, barrier: &Barrier<P>) -> Check<P>
+        requires seat { IsSeatOf self.worker.seat barrier.now }
+        requires parcel { MayGive self }
         ensures { Checks self result }
     {
-        let Running { mut seat } = self;
+        let Running {
+            worker: RunningSeat {
+                number,
+                stamp,
+                mut seat,
+            },
+            parcel,
+        } = self;
         let words = &barrier.table.shared;
         let request = words.load::<ReadRequest>(&mut seat, REQUEST);
         if request % 2 == 1 {
+            words.store::<StoreMark>(&mut seat, number + MARKS, parcel.mark());
+            match words.exchange(&mut seat, number, Some(Stamped { stamp, parcel })) {
+                None => {}
+                Some(_) => unreachable!(),
+            }
             words.fetch_add::<Arrive>(&mut seat, ARRIVALS, 1);
-            Check::Parked(ParkedSeat { seat })
+            Check::Parked(ParkedSeat { number, seat })
         } else {
-            Check::Run(Running { seat })
+            let worker = RunningSeat {
+                number,
+                stamp,
+                seat,
+            };
+            Check::Run(Running { worker, parcel })
         }
     }
 }
 
-impl ParkedSeat {
+impl<P: Parcel + Drop> ParkedSeat<P> {
     ghost use Rattle.vg_barrier.specs.Answers.{Polls};
 
     /// Reads the request word: [`Check::Parked`] comes only where it is odd, and [`Check::Run`] only where it is even; the
-    /// worker has then taken itself off the arrival count.
-    pub fn poll(self, barrier: &Barrier) -> Check
+    /// worker has then taken its parcel, whose stamp is half the word, and itself off the arrival count. The parcel fits
+    /// the book and has the mark with which it was given.
+    pub fn poll(self, barrier: &Barrier<P>) -> Check<P>
         requires { IsSeatOf self.seat barrier.now }
         ensures { Polls self result }
     {
-        let ParkedSeat { mut seat } = self;
+        let ParkedSeat { number, mut seat } = self;
         let words = &barrier.table.shared;
         let request = words.load::<ReadRequest>(&mut seat, REQUEST);
-        if request % 2 == 0 {
-            words.fetch_sub::<Depart>(&mut seat, ARRIVALS, 1);
-            Check::Run(Running { seat })
-        } else {
-            Check::Parked(ParkedSeat { seat })
+        if request % 2 == 1 {
+            return Check::Parked(ParkedSeat { number, seat });
         }
+        words.load::<ReceiveParcel>(&mut seat, GENERATION);
+        let Some(Stamped { stamp, parcel }) = words.exchange(&mut seat, number, None) else {
+            unreachable!()
+        };
+        words.fetch_sub::<Depart>(&mut seat, ARRIVALS, 1);
+        let worker = RunningSeat {
+            number,
+            stamp,
+            seat,
+        };
+        Check::Run(Running { worker, parcel })
     }
 }

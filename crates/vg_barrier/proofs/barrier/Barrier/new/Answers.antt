@@ -1,21 +1,31 @@
-use Rattle.std.proofs.Common.{rules, arith, ◌+◌, ◌≡◌, ◌∙◌, sym, ap, length, length-append, [], ◌∷◌, subst}
+use Rattle.std.proofs.Common.{rules, arith, ℕ, ◌≡◌, ◌∙◌, sym, ap, subst, true, [], ◌∷◌, ◌+◌, ◌*◌, map, length, length-append}
 use Rattle.vg_barrier.specs.declared.views.WorkerPhase.TheVariants.{Running}
 use Rattle.vg_barrier.specs.declared.views.WorkerView.{WorkerView}
-use Rattle.vg_barrier.specs.Seats.{main_of, worker_view}
-use Rattle.vg_barrier.specs.Steps.{Sat, main_me, made_one, newcomer}
-use Rattle.vg_barrier.specs.Making.{IsFirst}
-use Rattle.vg_barrier.proofs.Crew.{with_made, one_more}
+use Rattle.vg_barrier.specs.declared.views.View.TheVariants.{Main}
+use Rattle.vg_barrier.specs.Seats.{main_of, main_view, worker_view}
+use Rattle.vg_barrier.specs.Steps.{made_one, newcomer}
+use Rattle.vg_barrier.specs.Making.{with_made, first_left, IsFirst}
+use Rattle.vg_barrier.proofs.Places.{each_more}
 use Rattle.vg_barrier.proofs.barrier.Barrier.new.Goals as goal
 
 pub loop-k-preserved : goal.loop-k-preserved
-loop-k-preserved c = let inv = c.loop-k.invariant in let ran = c.in-Run.ensures in let made = c.make_worker.ensures in
-    let new : worker_view c.make_worker.result.seat ≡ newcomer (with_made c.loop-k._k) = made.worker ∙ ap (λ (x : Sat). newcomer (main_of x.0)) inv.main in
-    let word : ran.1.0 ≡ 0 = ran.1.2 (ap (λ (v : WorkerView). v.steps) new) in record {
+loop-k-preserved g c = let inv = c.loop-k.invariant in let k : ℕ = c.loop-k.k in let ran = c.in-Run.ensures in let w = c.in-Run.worker in let made = c.make_worker.ensures in let marks = map g.P.Parcel.mark c.args.parcels.items in
+    let before : main_view c.loop-k.seat ≡ with_made c.args.book marks k = ap (λ z. main_of z.0) inv.main in
+    let new : worker_view c.make_worker.result.seat ≡ newcomer (with_made c.args.book marks k) = made.worker ∙ ap (λ z. newcomer z) before in
+    let stamp : ran.1.0 ≡ 0 = ran.1.2 (ap (λ (z : WorkerView g.row.P-Book.Denot). z.steps) new) in let generation : g.P.Parcel.generation w.parcel ≡ 0 = ran.1.3 stamp in
+    let left : worker_view w.worker.seat ≡ first_left c.args.book marks k = ran.1.1 ∙ (λ i. let z : WorkerView g.row.P-Book.Denot = record (new i) { phase = Running; has = true; read = 2 * stamp i; stamp = stamp i; generation = generation i; steps = (new i).steps + 3 } in z) in record {
       seat = made.seats.0;
       made_for = inv.made_for;
-      main = made.main ∙ ap (λ (x : Sat). main_me (made_one (main_of x.0))) inv.main;
-      count = ap length c.in-Ok-push.ensures.items ∙ (let n = length-append c.loop-k.running.items (c.in-Run.worker ∷ []) in let m = inv.count in omega arith);
+      all = inv.all;
+      main = made.main ∙ (λ i. (Main (made_one (before i)), []));
+      count = ap length c.in-Ok-push.ensures.items ∙ (let l = length-append c.loop-k.running.items (w ∷ []) in let n = inv.count in omega arith);
       room = search rules;
-      numbered = one_more c.in_ok-barrier.barrier c.loop-k.running.items c.push.new.self.items c.in-Run.worker c.in-Ok-push.ensures.items inv.numbered
-          (subst (λ n. IsFirst c.in_ok-barrier.barrier n c.in-Run.worker) (sym inv.count) (ran.0 ∙ made.seats.1, ran.1.3 ∙ (λ i. let v : WorkerView = record { number = (new i).number; phase = Running; read = word i; steps = (new i).steps + 2 } in v)));
+      numbered = each_more (IsFirst c.in_ok-barrier.barrier c.args.book marks) c.loop-k.running.items c.push.new.self.items w c.in-Ok-push.ensures.items inv.numbered
+          (subst (λ (n : ℕ). IsFirst c.in_ok-barrier.barrier c.args.book marks n w) (sym inv.count) (
+            ran.0 ∙ made.seats.1,
+            left,
+            subst (λ (z : WorkerView g.row.P-Book.Denot). g.P.Parcel.fits w.parcel z.book) new ran.2,
+            generation,
+            ran.3 ∙ ap (λ (z : WorkerView g.row.P-Book.Denot). z.mark) new,
+          ));
     }
