@@ -1,6 +1,8 @@
 //! Tests of the table of routes.
 
-use crate::{Fib, FibError, MOST_ROUTES, NoSuchRoute, laws};
+ghost use Rattle.std.specs.Prelude.{◌≤◌};
+
+use crate::{Fib, FibError, MOST_ROUTES, Mtrie, NoSuchRoute, laws};
 use std::alloc::Global;
 use std::process::Abort;
 use std::test::Fail;
@@ -131,4 +133,112 @@ fn the_laws_are_called() {
     laws::set_route_is_found();
     laws::set_changes_only_covered();
     laws::remove_changes_only_covered();
+}
+
+// 10.1.0.0/17, 10.1.2.0/24, 10.1.2.128/25 and 10.1.2.3/32.
+const HALF: Prefix = Prefix {
+    addr: 0x0a01_0000,
+    len: 17,
+};
+
+const NET: Prefix = Prefix {
+    addr: 0x0a01_0200,
+    len: 24,
+};
+
+const UPPER: Prefix = Prefix {
+    addr: 0x0a01_0280,
+    len: 25,
+};
+
+const HOST: Prefix = Prefix {
+    addr: 0x0a01_0203,
+    len: 32,
+};
+
+// Builds the trie of these routes, set in this order, and looks up an address on each level; where no prefix
+// but the default route's covers it, this is the target.
+fn build_in_order(
+    rt: &impl Abort,
+    alloc: Global,
+    order: &[(Prefix, RouteTo)],
+    default: Option<RouteTo>,
+) -> Result<(), Fail> {
+    let mut fib = Fib::new(alloc)?;
+    for (prefix, to) in order {
+        fib.set(*prefix, *to)?;
+    }
+    let trie = Mtrie::build(alloc, &fib)?;
+    assert_eq!(rt; trie.find(0x0a01_0203), Some(RouteTo::Drop));
+    assert_eq!(rt; trie.find(0x0a01_0204), Some(RouteTo::Via(1)));
+    assert_eq!(rt; trie.find(0x0a01_0280), Some(RouteTo::Via(2)));
+    assert_eq!(rt; trie.find(0x0a01_7fff), Some(RouteTo::Via(0)));
+    assert_eq!(rt; trie.find(0x0a01_8000), default);
+    assert_eq!(rt; trie.find(0xffff_ffff), default);
+    Ok(())
+}
+
+#[test]
+fn a_trie_finds_the_longest_prefix_on_each_level(rt: HostRuntime) -> Result<(), Fail> {
+    let alloc = rt.alloc();
+    let half = (HALF, RouteTo::Via(0));
+    let net = (NET, RouteTo::Via(1));
+    let upper = (UPPER, RouteTo::Via(2));
+    let one = (HOST, RouteTo::Drop);
+    let everywhere = (EVERYWHERE, RouteTo::Local);
+    let local = Some(RouteTo::Local);
+    build_in_order(&rt, alloc, &[half, net, upper, one, everywhere], local)?;
+    build_in_order(&rt, alloc, &[everywhere, one, upper, net, half], local)?;
+    build_in_order(&rt, alloc, &[half, net, upper, one], None)?;
+    build_in_order(&rt, alloc, &[one, upper, net, half], None)?;
+    Ok(())
+}
+
+// The prefix of so many bits that covers an address.
+fn prefix_of(address: u32, len: u8) -> Prefix
+    requires { len ≤ 32 }
+{
+    let host_bits = 32 - len;
+    Prefix {
+        addr: ((u64::from(address) >> host_bits) << host_bits) as u32,
+        len,
+    }
+}
+
+// Whether trie and table answer the same.
+fn agree(rt: &impl Abort, fib: &Fib, trie: &Mtrie, address: u32) {
+    assert_eq!(rt; trie.find(address), fib.find(address));
+}
+
+#[test]
+fn trie_and_table_agree_at_the_ends_of_each_prefix(rt: HostRuntime) -> Result<(), Fail> {
+    let alloc = rt.alloc();
+    let mut fib = Fib::new(alloc)?;
+    // In each turn the next address of a generator and the next length; every second one lies in 10.1.0.0/16.
+    let mut address: u32 = 0x0a01_0203;
+    for turn in 0..8192_u32 {
+        address = address.wrapping_mul(0x9e37_79b1).wrapping_add(0x7f4a_7c15);
+        let near = if turn % 2 == 0 {
+            address
+        } else {
+            0x0a01_0000 | (address >> 16)
+        };
+        if fib.routes().len() < MOST_ROUTES {
+            fib.set(
+                prefix_of(near, (turn % 33) as u8),
+                RouteTo::Via(turn as u16),
+            )?;
+        }
+    }
+    assert_eq!(rt; fib.routes().len(), MOST_ROUTES);
+    let trie = Mtrie::build(alloc, &fib)?;
+    for (prefix, _) in fib.routes() {
+        let first = prefix.addr;
+        let last = first | (u64::from(u32::MAX) >> prefix.len) as u32;
+        agree(&rt, &fib, &trie, first);
+        agree(&rt, &fib, &trie, last);
+        agree(&rt, &fib, &trie, first.wrapping_sub(1));
+        agree(&rt, &fib, &trie, last.wrapping_add(1));
+    }
+    Ok(())
 }
