@@ -1,0 +1,3 @@
+pub mod PendingLemmas
+pub mod QueueLemmas
+pub mod StoreLemmas

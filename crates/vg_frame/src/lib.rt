@@ -1,0 +1,24 @@
+//! Frames of buffer indexes, and the buffers that one worker has under way.
+//!
+//! A worker's buffers stand in its [`BufferMemory`], each under an index. Between two nodes an index waits in the [`FrameStore`],
+//! behind those that wait for the same node. They are dispatched a [`Frame`] at a time: at most 256 indexes for one node, oldest
+//! first, as the frames of VLIB.
+//!
+//! What calls cost: all memory is taken by [`BufferMemory::new`] and [`FrameStore::new`]. [`BufferMemory::place`],
+//! [`BufferMemory::lift`] and [`BufferMemory::get_mut`] move or lend one pointer. [`FrameStore::put`] writes one index, and with the
+//! 256th of a frame moves two pointers. [`FrameStore::next_frame`] finds the lowest node that has a frame by one look at a word with
+//! a bit for each node, moves up to nine pointers and copies the frame out. None of them looks through nodes, frames or indexes.
+#![tactic(auto)]
+
+pub mod frames;
+pub mod memory;
+mod node_set;
+mod queues;
+mod spares;
+pub mod store;
+#[cfg(test)]
+mod tests;
+
+pub use frames::{FRAME_SIZE, Frame};
+pub use memory::{BufferMemory, MOST_PLACED};
+pub use store::{FRAMES, FrameStore, MOST_NODES, MOST_PENDING};
