@@ -1,0 +1,4 @@
+pub mod Tally
+pub mod Notes
+pub mod View
+pub mod NotesView

@@ -1,0 +1,16 @@
+//! Counters of what packets did, and traces of where they went.
+//!
+//! Each worker has its own [`Counters`] and its own [`Trace`], so that nothing is shared while packets go. Afterwards [`total`] sums
+//! the counters by place, and [`merge`] puts the traces together, packet by packet and leg by leg. VLIB keeps such counters by
+//! thread too; its packet tracer notes the nodes of the first packets.
+//!
+//! Counting is one addition at one place. No call takes memory but those that make a value.
+#![tactic(auto)]
+
+pub mod counting;
+#[cfg(test)]
+mod tests;
+pub mod tracing;
+
+pub use counting::{Counters, ERRORS, total};
+pub use tracing::{LEGS, MOST_NOTED, Trace, TraceLists, merge};
