@@ -1,5 +1,5 @@
 -- Which nodes were noted for a packet, leg by leg.
-use Rattle.std.specs.Prelude.{◌≡◌, ℕ, ◌-◌, ◌<◌, List, [], ◌∷◌, ◌++◌, length, replicate, slice_index_or, slice_set, flat_map, nat_lt, ◌&&◌, if◌then◌else◌, All}
+use Rattle.std.specs.Prelude.{◌≡◌, ℕ, List, [], ◌∷◌, ◌++◌, length, replicate, slice_index_or, slice_set, flat_map, nat_lt, ◌&&◌, if◌then◌else◌, All}
 
 -- by packet, and in it by leg: the nodes that were noted, in order
 abbrev pub Notes : Type 0

@@ -1,5 +1,4 @@
 -- What contracts see of counters and traces.
-use Rattle.std.specs.Prelude.{List, map}
 use Rattle.vg_counters.specs.Tally.{Tally}
 use Rattle.vg_counters.specs.declared.counting.Counters.TheInside.{Inside}
 

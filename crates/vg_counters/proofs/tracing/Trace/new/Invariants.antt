@@ -1,4 +1,4 @@
-use Rattle.std.proofs.Common.{◌≡◌, replicate, map}
+use Rattle.std.proofs.Common.{◌≡◌, map}
 use Rattle.vg_counters.specs.Notes.{nothing_noted}
 use Rattle.vg_counters.proofs.tracing.Trace.new.Given as goal
 
