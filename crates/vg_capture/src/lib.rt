@@ -6,6 +6,7 @@ pub mod errors;
 pub mod laws;
 mod layout;
 mod reading;
+pub mod times;
 mod writing;
 
 pub use captures::{Capture, Captured, MOST_PACKETS, Packets, Sent};

@@ -1,4 +1,4 @@
-use crate::{Capture, CaptureError, Packets, Sent, read_capture, write_capture};
+use crate::{Capture, CaptureError, Captured, Packets, Sent, read_capture, write_capture};
 use std::alloc::Global;
 use std::process::Abort;
 use std::test::Fail;
@@ -88,11 +88,17 @@ fn an_empty_capture_is_its_header(rt: HostRuntime) -> Result<(), Fail> {
 
 #[test]
 fn each_refusal_names_its_place(rt: HostRuntime) -> Result<(), Fail> {
-    let no_magic = header_with(&rt, 0, 0x0a);
+    let no_magic = [0x0a, 0x0d, 0x0d, 0x0a];
     let version_2_3 = header_with(&rt, 6, 3);
     let upper_bit = header_with(&rt, 23, 0x10);
     let large = zeros_up_to(rt.alloc(), 16_777_217)?;
-    let cases: [(&[u8], CaptureError); 8] = [
+    let mut long = BIG_ENDIAN;
+    long[32] = 0xff;
+    long[33] = 0xff;
+    long[34] = 0xff;
+    long[35] = 0xff;
+    let cases: [(&[u8], CaptureError); 9] = [
+        (&long, CaptureError::RecordTooLong { offset: 24 }),
         (&HEADER[..3], CaptureError::Truncated { offset: 0 }),
         (&no_magic, CaptureError::NotPcap),
         (&HEADER[..23], CaptureError::Truncated { offset: 0 }),
@@ -124,5 +130,93 @@ fn as_many_packets_as_may_be(rt: HostRuntime) -> Result<(), Fail> {
     file[34] = 5;
     let refused = read_capture(rt.alloc(), &file).err();
     assert_eq!(rt; refused, Some(CaptureError::RecordTooLong { offset: 24 }));
+    Ok(())
+}
+
+/// A capture of packets without bytes, by their seconds and fractions.
+fn capture_at(
+    rt: &impl Abort,
+    alloc: Global,
+    nanos: bool,
+    stamps: &[(u32, u32)],
+) -> Result<Capture, Fail> {
+    let mut packets = Vec::new(alloc);
+    for (seconds, fraction) in stamps {
+        packets.push(Captured {
+            seconds: *seconds,
+            fraction: *fraction,
+            original: 0,
+            bytes: Bytes::from_vec(Vec::new(alloc)),
+        })?;
+    }
+    assert!(rt; packets.len() < 100);
+    Ok(Capture {
+        nanos,
+        snaplen: 262_144,
+        packets: Packets::from_vec(packets),
+    })
+}
+
+/// Whether the packets have these times.
+fn has_times(capture: &Capture, times: &[u64]) -> bool {
+    let count = capture.count();
+    if count as usize != times.len() {
+        return false;
+    }
+    for number in 0..count {
+        if capture.time(number) != times[number as usize] {
+            return false;
+        }
+    }
+    true
+}
+
+#[test]
+fn times_never_fall(rt: HostRuntime) -> Result<(), Fail> {
+    let empty = capture_at(&rt, rt.alloc(), false, &[])?;
+    assert_eq!(rt; empty.count(), 0);
+
+    // A fraction above a second, a time stamp below the one before, and one below the first.
+    let stamps = [(10, 0), (10, 2_500_000), (11, 5), (13, 1), (9, 0)];
+    let capture = capture_at(&rt, rt.alloc(), false, &stamps)?;
+    assert!(rt; has_times(&capture, &[0, 2_500_000, 2_500_000, 3_000_001, 3_000_001]));
+
+    // In microseconds: 1,999,999, then 4,000,000, 0, and 4,294,967,299,294,967.
+    let stamps = [
+        (1, 999_999_999),
+        (3, 1_000_000_500),
+        (0, 0),
+        (4_294_967_295, 4_294_967_295),
+    ];
+    let capture = capture_at(&rt, rt.alloc(), true, &stamps)?;
+    assert!(rt; has_times(&capture, &[0, 2_000_001, 2_000_001, 4_294_967_297_294_968]));
+    Ok(())
+}
+
+#[test]
+fn each_magic_has_its_order_and_unit(rt: HostRuntime) -> Result<(), Fail> {
+    let magics = [
+        ([0xd4, 0xc3, 0xb2, 0xa1], false),
+        ([0x4d, 0x3c, 0xb2, 0xa1], true),
+    ];
+    for (magic, nanos) in magics {
+        let mut file = HEADER;
+        file[..4].copy_from_slice(&magic);
+        let capture = read_capture(rt.alloc(), &file)?;
+        assert_eq!(rt; capture.nanos, nanos);
+        assert_eq!(rt; capture.snaplen, 262_144);
+    }
+
+    let magics = [
+        ([0xa1, 0xb2, 0xc3, 0xd4], false),
+        ([0xa1, 0xb2, 0x3c, 0x4d], true),
+    ];
+    for (magic, nanos) in magics {
+        let mut file = BIG_ENDIAN;
+        file[..4].copy_from_slice(&magic);
+        let capture = read_capture(rt.alloc(), &file)?;
+        assert_eq!(rt; capture.nanos, nanos);
+        assert_eq!(rt; capture.snaplen, 65_535);
+    }
     Ok(())
 }
