@@ -1,3 +1,4 @@
 pub mod SumLemmas
 pub mod UpdateLemmas
 pub mod Examples
+pub mod HeaderLemmas

@@ -1,11 +1,12 @@
 //! What the packet path computes on bytes: number fields, the checksum of an IPv4 header (RFC 791,
-//! RFC 1071), its update as the time to live falls (RFC 1624), and the hash that chooses a worker. No
-//! call allocates.
+//! RFC 1071), its update as the time to live falls (RFC 1624), the hash that chooses a worker, and the
+//! checks and the rewrite of a frame's headers. No call allocates.
 #![tactic(auto)]
 
 mod checksums;
 mod fields;
 mod hashes;
+pub mod headers;
 pub mod laws;
 
 pub use checksums::{lower_ttl, verify_header};

@@ -1,4 +1,3 @@
-pub mod HeaderLemmas
 pub mod LegLemmas
 pub mod WalkLemmas
 pub mod TallyLemmas

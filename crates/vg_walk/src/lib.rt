@@ -5,7 +5,6 @@
 //! copied once, where it begins; the router rewrites them in place, and they move into the log where they are transmitted.
 #![tactic(auto)]
 
-mod headers;
 pub mod logs;
 mod packets;
 #[cfg(test)]

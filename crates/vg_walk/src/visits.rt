@@ -8,14 +8,14 @@ ghost use Rattle.vg_model.specs.Visit as of_model;
 ghost use Rattle.vg_walk.specs.Walks.{with_routes};
 ghost use Rattle.vg_walk.specs.Packets.{packet_of};
 
-use crate::headers::{
-    ETHERNET_LEN, ETHERTYPE, ETHERTYPE_IPV4, datagram, destination, header_fault, is_foreign,
-    rewrite, time_to_live, total_len,
-};
 use crate::packets::Packet;
 use vg_fib::Fib;
 use vg_graph::Graph;
 use vg_model::{Adjacency, DropError, Kind, RouteTo, Step};
+use vg_packet::headers::{
+    ETHERNET_LEN, ETHERTYPE, ETHERTYPE_IPV4, datagram, destination, header_fault, is_foreign,
+    rewrite, time_to_live, total_len,
+};
 use vg_packet::{flow_hash, u16_at};
 
 /// The interface that packets come in on, and leave on where none is chosen.

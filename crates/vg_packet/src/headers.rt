@@ -3,8 +3,9 @@ ghost use Rattle.std.specs.Prelude.{◌≡◌, ◌≤◌, drop, length};
 ghost use Rattle.vg_model.specs.Visit as visits;
 ghost use Rattle.vg_model.specs.Visit.{ethernet_len};
 
-use vg_model::{Adjacency, DropError, Interface, Mac};
-use vg_packet::{lower_ttl, u16_at, u32_at, verify_header};
+use crate::checksums::{lower_ttl, verify_header};
+use crate::fields::{u16_at, u32_at};
+use vg_model::{Adjacency, DropError, Interface};
 
 /// The length of an Ethernet header: two addresses and a type.
 pub const ETHERNET_LEN: usize = 14;

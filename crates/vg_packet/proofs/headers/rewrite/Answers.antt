@@ -2,8 +2,8 @@ use Rattle.std.proofs.Common.{ℕ, List, take, drop, ap, ◌∙◌}
 use Rattle.vg_model.specs.Bytes.{overwritten}
 use Rattle.vg_model.specs.Header.{lowered}
 use Rattle.vg_model.specs.Visit.{header_len}
-use Rattle.vg_walk.proofs.HeaderLemmas.{lowerable_part, with_header, address_len, address_len_behind}
-use Rattle.vg_walk.proofs.headers.rewrite.Goals as goal
+use Rattle.vg_packet.proofs.HeaderLemmas.{lowerable_part, with_header, address_len, address_len_behind}
+use Rattle.vg_packet.proofs.headers.rewrite.Goals as goal
 
 pub lower_ttl-requires-clause-verified : goal.lower_ttl-requires-clause-verified
 lower_ttl-requires-clause-verified c =
