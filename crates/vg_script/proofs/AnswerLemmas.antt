@@ -12,7 +12,9 @@ use Rattle.vg_script.specs.declared.errors.ScriptCause.{ScriptCause}
 use Rattle.vg_script.specs.declared.errors.ScriptCause.TheVariants as causes
 use Rattle.vg_script.specs.Classes.{name_of, number_of, mac_of, prefix_of, kind_of}
 use Rattle.vg_script.specs.Lawful.{IsLawfulEdit, IsEdit, IsTarget}
-use Rattle.vg_script.specs.Statements.{Words, Form, read_on, ◌>>=◌, gives, end_of_line, a_word, or_else, a_word_of, a_name, a_mac, a_prefix, a_kind, a_number, fixed, up_or_down, filter_or_nothing, target_by, a_target, Statement, Change, At, Process, Then, End, interface_form, node_form, arc_form, adjacency_form, route_form, unroute_form, change, at_form, process_form, alone, Row, rows, row_of}
+use Rattle.vg_script.specs.declared.statements.Statement.{Statement}
+use Rattle.vg_script.specs.declared.statements.Statement.TheVariants.{Change, At, Process, Then, End}
+use Rattle.vg_script.specs.Statements.{Words, Form, read_on, ◌>>=◌, gives, end_of_line, a_word, or_else, a_word_of, a_name, a_mac, a_prefix, a_kind, a_number, fixed, up_or_down, filter_or_nothing, target_by, a_target, interface_form, node_form, arc_form, adjacency_form, route_form, unroute_form, change, at_form, process_form, alone, Row, rows, row_of}
 use Rattle.vg_script.proofs.ValueLemmas.{name_value, IsWithin, number_value, mac_value, HasAddress, prefix_value, kind_value, found_has}
 
 -- an answer has this property, or its cause isn't want of memory

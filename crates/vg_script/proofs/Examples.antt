@@ -1,5 +1,5 @@
 -- Worked examples of scripts, computed from the definitions.
-use Rattle.std.proofs.Common.{◌≡◌, ℕ, suc, zero, ◌+◌, true, false, List, [], ◌∷◌, ◌++◌, refl, map, replicate}
+use Rattle.std.proofs.Common.{◌≡◌, ℕ, suc, zero, true, false, List, [], ◌∷◌, ◌++◌, refl, map, replicate}
 use Rattle.std.specs.Fmt.{digits}
 use Rattle.std.specs.Prelude.{codes, decimal, flat_map, Option, Some, None, Ok, Err}
 use Rattle.vg_model.specs.declared.edits.Edit.{Edit}
@@ -9,12 +9,10 @@ use Rattle.vg_model.specs.declared.kinds.HashKind.TheVariants.{Dst}
 use Rattle.vg_model.specs.declared.kinds.Kind.TheVariants as kinds
 use Rattle.vg_model.specs.declared.names.Mac.{Mac}
 use Rattle.vg_model.specs.declared.routes.RouteWord.TheVariants as targets
-use Rattle.vg_model.specs.Edit.{apply_all}
-use Rattle.vg_model.specs.Start.{start_graph}
-use Rattle.vg_script.specs.declared.errors.ScriptCause.TheVariants as causes
 use Rattle.vg_script.specs.declared.scripts.Script.{Script}
 use Rattle.vg_script.specs.Causes.{cause_of, cause_word}
 use Rattle.vg_script.specs.Classes.{prefix}
+use Rattle.vg_script.specs.Generations.{generations_of}
 use Rattle.vg_script.specs.Plain.{plain}
 use Rattle.vg_script.specs.Reading.{script_of}
 use Rattle.vg_script.specs.Statements.{row_of}
@@ -35,7 +33,7 @@ edits_alone es = record { start = from_line 1 es; blocks = [] }
 -- the line and the printed cause of the refusal of a text, by its form or by an edit; None where it is accepted
 abbrev pub refusal : List ℕ → Option (ℕ × List ℕ)
 refusal text = elim (script_of text) [
-  | Ok script ↦ elim (apply_all start_graph script.start) [ Ok g ↦ None | Err r ↦ Some (r.0, cause_word (cause_of r.1)) ]
+  | Ok script ↦ elim (generations_of script) [ Ok graphs ↦ None | Err r ↦ Some (r.0, cause_word (cause_of r.1)) ]
   | Err error ↦ Some (error.line, cause_word error.cause)
 ]
 
@@ -196,29 +194,6 @@ too_large = refl
 
 any_byte_in_a_comment : refusal (codes "# " ++ 0xff ∷ []) ≡ None
 any_byte_in_a_comment = refl
-
--- blocks: none may be begun yet
-no_block_is_read_yet : AreRefused (
-    (codes "then", 1, codes "block")
-    ∷ (codes "end of", 1, codes "block")
-    ∷ (codes "at 01", 1, codes "number")
-    ∷ (codes "at 1000000000001", 1, codes "number")
-    ∷ (codes "at 5 6", 1, codes "word")
-    ∷ (codes "process p every 0 count 1", 1, codes "number")
-    ∷ (codes "process p every 1 count 0", 1, codes "number")
-    ∷ (codes "process p every 1 count 1000", 1, codes "number")
-    ∷ (codes "at 5", 1, codes "too-many-generations")
-    ∷ (codes "process p every 1 count 999", 1, codes "too-many-generations")
-    ∷ (
-      text_of (
-          codes "node a kind pass" ∷ codes "arc a out ethernet-input" ∷ codes "at 10" ∷ codes "end" ∷ codes "at 20"
-          ∷ codes "arc pg-input out a" ∷ codes "end" ∷ codes "at 30" ∷ codes "arc ethernet-input ip4 a" ∷ codes "end" ∷ []),
-      3,
-      codes "too-many-generations",
-    )
-    ∷ [])
-unfolding row_of
-no_block_is_read_yet = refl
 
 -- refusals by an edit
 the_first_edit_that_cannot_be_made : AreRefused (

@@ -1,6 +1,6 @@
 -- What is read is lawful.
 use Rattle.std.proofs.Common.{◌≡◌, ◌⊎◌, ℕ, suc, ◌+◌, ◌<◌, ◌≤◌, Bool, true, false, cond, List, [], ◌∷◌, ◌++◌, length, map, get_or, refl, sym, ap, subst, ◌∙◌, arith, inl, inr, ltb-false, length-append}
-use Rattle.std.specs.Prelude.{Result, Ok, Err, All, sum_by, nat_lt}
+use Rattle.std.specs.Prelude.{Result, Ok, Err, IfOk, All, sum_by, nat_lt}
 use Rattle.std.specs.List.Sorted.{IsStrictlyIncreasing}
 use Rattle.std.proofs.lemmas.Bool.{cases_lt}
 use Rattle.std.proofs.lemmas.List.{get_or_append_left, get_or_push, map-append}
@@ -16,9 +16,10 @@ use Rattle.vg_script.specs.declared.scripts.Block.TheVariants as blocks
 use Rattle.vg_script.specs.declared.scripts.Script.{Script}
 use Rattle.vg_script.specs.Lawful.{IsLawfulEdit, AreLawfulEdits, IsLawfulBlock, block_line, block_events, IsLawful, IsEdit, AreEdits, IsBlock, IsScript}
 use Rattle.vg_script.specs.Lines.{lines}
-use Rattle.vg_script.specs.Reading.{Begun, Nothing, AtBlock, ProcessBlock, Reading, nothing_read, ◌>>=◌, refused_if, with_edit, with_block, with_group, without_block, with_statement, with_line, with_lines, refused, closed, script_of_lines, largest_script, most_events}
+use Rattle.vg_script.specs.Reading.{Begun, Nothing, AtBlock, ProcessBlock, Reading, nothing_read, ◌>>=◌, refused_if, with_edit, with_block, with_group, without_block, with_statement, with_line, with_lines, refused, closed, script_of_lines, largest_script, most_events, AnswersRead}
 use Rattle.vg_script.specs.RoundTrip.{ReadsLawful}
-use Rattle.vg_script.specs.Statements.{Statement, Change, At, Process, Then, End}
+use Rattle.vg_script.specs.declared.statements.Statement.{Statement}
+use Rattle.vg_script.specs.declared.statements.Statement.TheVariants.{Change, At, Process, Then, End}
 use Rattle.vg_script.proofs.AnswerLemmas.{IsGoodEdit, IsGoodStatement}
 use Rattle.vg_script.proofs.LineLemmas.{IsLine, is_line}
 use Rattle.vg_script.proofs.ReadLemmas.{after_line, answer}
@@ -302,3 +303,12 @@ reads_lawful text script read = by_size (nat_lt largest_script (length text)) re
     by_size true read = absurd cc
     by_size false read =
         answered (length (lines text)) script (with_lines 1 nothing_read (lines text)) (λ r h. lines_step 1 nothing_read r (lines text) good_start h) read
+
+-- what is answered is lawful
+pub answered_lawful : (text : List ℕ) (r : Result Script ScriptError) → AnswersRead text r → IfOk r IsLawful
+answered_lawful text (Ok script) h = (reads_lawful text script h).1
+answered_lawful text (Err error) h = tt
+
+pub answered_script : (text : List ℕ) (r : Result Script ScriptError) → AnswersRead text r → IfOk r IsScript
+answered_script text (Ok script) h = (reads_lawful text script h).0
+answered_script text (Err error) h = tt

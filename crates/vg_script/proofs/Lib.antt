@@ -1,4 +1,5 @@
 pub mod Examples
+pub mod BlockExamples
 pub mod SplitLemmas
 pub mod ClassLemmas
 pub mod FormLemmas
@@ -11,3 +12,4 @@ pub mod PrintLemmas
 pub mod RoundTripLines
 pub mod RoundTripClasses
 pub mod RoundTripLemmas
+pub mod EventLemmas

@@ -1,13 +1,14 @@
 -- What a line does to what was read.
-use Rattle.std.proofs.Common.{◌≡◌, ◌≢◌, ◌⊎◌, ℕ, ◌+◌, Bool, true, false, not, List, [], ◌∷◌, refl, sym, ◌∙◌, inl, inr}
-use Rattle.std.specs.Prelude.{Option, Some, None, IfSome, Result, Ok, Err, ok_or, nat_lt}
+use Rattle.std.proofs.Common.{◌≡◌, ◌≢◌, ◌⊎◌, ℕ, Bool, true, false, not, List, [], ◌∷◌, refl, inl, inr}
+use Rattle.std.specs.Prelude.{Option, Some, None, IfSome, Result, Ok, Err, ok_or}
 use Rattle.std.specs.List.{list_all}
 use Rattle.vg_script.specs.declared.errors.ScriptCause.{ScriptCause}
 use Rattle.vg_script.specs.declared.errors.ScriptCause.TheVariants as causes
-use Rattle.vg_script.specs.Keywords.{edits_read, with_row, Says}
+use Rattle.vg_script.specs.Keywords.{with_row}
 use Rattle.vg_script.specs.Lines.{without_comment, is_allowed, words}
-use Rattle.vg_script.specs.Reading.{Reading, Begun, AtBlock, ProcessBlock, ◌>>=◌, refused_if, may_stand, value_of, with_statement, with_words, with_line, most_events}
-use Rattle.vg_script.specs.Statements.{Words, Row, row_of, Statement, Change, At, Process, Then, End}
+use Rattle.vg_script.specs.Reading.{Reading, ◌>>=◌, refused_if, may_stand, value_of, with_statement, with_words, with_line}
+use Rattle.vg_script.specs.declared.statements.Statement.{Statement}
+use Rattle.vg_script.specs.Statements.{Words, Row, row_of}
 use Rattle.vg_script.proofs.AnswerLemmas.{IsAnswer, IsGoodStatement, IsGoodRow, row_answers, row_good}
 
 -- a line says nothing, is at fault, or has a statement that a script can say
@@ -44,25 +45,3 @@ is_line number r bytes = by_test (list_all is_allowed (without_comment bytes))
     by_test : (b : Bool) → IsLine number r (refused_if (not b) causes.Bytes >>= λ _. with_words number r (words (without_comment bytes)))
     by_test true = words_line number r (words (without_comment bytes))
     by_test false = fault number r causes.Bytes (λ e. cc)
-
--- want of memory is no fault of a line
-block_cause : (begun : Begun) (r : Reading) (events : ℕ) (b : Bool) (cause : ScriptCause)
-    → (refused_if b causes.TooManyGenerations >>= λ _. Ok (record r { begun = begun; events = events })) ≡ Err cause → cause ≢ causes.Memory
-block_cause begun r events true cause h = λ e. cc
-block_cause begun r events false cause h = absurd cc
-
-statement_cause : (number : ℕ) (r : Reading) (statement : Statement) (cause : ScriptCause) → with_statement number r statement ≡ Err cause → cause ≢ causes.Memory
-statement_cause number r (Change edit) cause h = absurd cc
-statement_cause number r (At time) cause h = block_cause (AtBlock number time []) r (r.events + 1) (nat_lt most_events (r.events + 1)) cause h
-statement_cause number r (Process name every count) cause h =
-    block_cause (ProcessBlock number name every count [] []) r (r.events + count) (nat_lt most_events (r.events + count)) cause h
-statement_cause number r Then cause h = absurd cc
-statement_cause number r End cause h = absurd cc
-
-line_cause : (number : ℕ) (r : Reading) (next : Result Reading ScriptCause) → IsLine number r next → (cause : ScriptCause) → next ≡ Err cause → cause ≢ causes.Memory
-line_cause number r next (inl same) cause h = absurd cc
-line_cause number r next (inr (inl (other, differs, same))) cause h = λ e. differs cc
-line_cause number r next (inr (inr (statement, good, same))) cause h = statement_cause number r statement cause (sym same ∙ h)
-
-pub said_cause : (bytes : List ℕ) (cause : ScriptCause) → Says bytes (Err cause) → cause ≢ causes.Memory
-said_cause bytes cause says = line_cause 1 (edits_read []) (with_line 1 (edits_read []) bytes) (is_line 1 (edits_read []) bytes) cause (says 1 [])

@@ -24,7 +24,8 @@ use Rattle.vg_script.specs.Lines.{lines, without_comment, is_allowed, words}
 use Rattle.vg_script.specs.Plain.{mac_text, prefix_text, kind_text, target_words, edit_words, edit_lines, block_lines, script_lines, plain}
 use Rattle.vg_script.specs.Reading.{◌>>=◌, most_events, Begun, Nothing, AtBlock, ProcessBlock, Reading, with_edit, with_block, with_words, with_line, with_lines, with_statement, value_of, refused_if, refused, nothing_read, script_of_lines, script_of, largest_script}
 use Rattle.vg_script.specs.RoundTrip.{edits_from, groups_from, block_from, blocks_from, renumbered, edit_without_line, edits_without_lines, block_without_lines, IsSameButLines, ReadsBack}
-use Rattle.vg_script.specs.Statements.{Words, Form, interface_form, node_form, arc_form, adjacency_form, route_form, unroute_form, change, at_form, process_form, At, Process, row_of}
+use Rattle.vg_script.specs.declared.statements.Statement.TheVariants.{At, Process}
+use Rattle.vg_script.specs.Statements.{Words, Form, interface_form, node_form, arc_form, adjacency_form, route_form, unroute_form, change, at_form, process_form, row_of}
 use Rattle.vg_script.proofs.RoundTripLines.{each-append, lines_are_read, IsWord, AreWords, text_of, texts_of, no_comment_is_cut, bytes_are_allowed, words_are_read}
 use Rattle.vg_script.proofs.RoundTripClasses.{name_is_read, name_is_word, number_is_read, number_is_word, mac_is_read, mac_is_word, prefix_is_read, prefix_is_word, kind_is_read, kind_is_word, literal}
 

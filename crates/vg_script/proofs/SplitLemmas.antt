@@ -1,43 +1,10 @@
 -- Texts that are split at the first byte of a kind, their lines and their words.
-use Rattle.std.proofs.Common.{◌≡◌, ◌==◌, ℕ, suc, ◌+◌, ◌-◌, ◌<◌, ◌≤◌, Bool, true, false, cond, ltb, List, [], ◌∷◌, length, take, drop, refl, sym, ap, subst, ◌∙◌, arith, ltb-true, ltb-false, lt-ltb, le-ltb, add-one, length-drop}
+use Rattle.std.proofs.Common.{◌≡◌, ◌==◌, ℕ, suc, ◌+◌, ◌<◌, ◌≤◌, Bool, true, false, cond, ltb, List, [], ◌∷◌, length, take, drop, refl, sym, ap, subst, ◌∙◌, arith, ltb-true, ltb-false, lt-ltb, le-ltb, add-one, length-drop}
 use Rattle.std.proofs.lemmas.List.Splits.{slice_split_first}
-use Rattle.std.specs.Prelude.{Some, None, filter, nat_lt}
+use Rattle.std.specs.Prelude.{Option, Some, None, unwrap_or, filter, nat_lt}
 use Rattle.std.specs.List.{position_or_len, before_first, after_first, slice_split, onto_first}
-use Rattle.std.proofs.lemmas.List.{take_all, drop_all, take_rest}
+use Rattle.std.proofs.lemmas.List.{take_all, drop_all}
 use Rattle.vg_script.specs.Lines.{lines, is_blank, words}
-
--- where a search found a place
-pub at_first : {X : Type 0} (p : X → Bool) (xs : List X) (place : ℕ)
-    → Some place ≡ cond (ltb (position_or_len p xs) (length xs)) (Some (position_or_len p xs)) None
-    → (place ≡ position_or_len p xs) × (place < length xs)
-at_first p xs place h = by_test (ltb (position_or_len p xs) (length xs)) refl h
-  where
-    by_test : (b : Bool) → ltb (position_or_len p xs) (length xs) ≡ b → Some place ≡ cond b (Some (position_or_len p xs)) None
-        → (place ≡ position_or_len p xs) × (place < length xs)
-    by_test true e h =
-        let same : place ≡ position_or_len p xs = cc in
-        let less = ltb-true _ _ e in
-        (same, omega (arith, less))
-    by_test false e h = absurd cc
-
--- where it found none
-pub at_no_first : {X : Type 0} (p : X → Bool) (xs : List X)
-    → None ≡ cond (ltb (position_or_len p xs) (length xs)) (Some (position_or_len p xs)) None
-    → length xs ≤ position_or_len p xs
-at_no_first p xs h = by_test (ltb (position_or_len p xs) (length xs)) refl h
-  where
-    by_test : (b : Bool) → ltb (position_or_len p xs) (length xs) ≡ b → None ≡ cond b (Some (position_or_len p xs)) None
-        → length xs ≤ position_or_len p xs
-    by_test true e h = absurd cc
-    by_test false e h = ltb-false _ _ e
-
--- what stands before the place, and what stands behind it
-pub before_place : {X : Type 0} (p : X → Bool) (xs : List X) (place : ℕ) → place ≡ position_or_len p xs → take place xs ≡ before_first p xs
-before_place p xs place h = ap (λ n. take n xs) h
-
-pub after_place : {X : Type 0} (p : X → Bool) (xs : List X) (place : ℕ) → place ≡ position_or_len p xs
-    → take (length xs - (place + 1)) (drop (place + 1) xs) ≡ after_first p xs
-after_place p xs place h = take_rest xs (place + 1) ∙ ap (λ n. drop (n + 1) xs) h
 
 -- all, and nothing
 pub before_none : {X : Type 0} (p : X → Bool) (xs : List X) → length xs ≤ position_or_len p xs → before_first p xs ≡ xs
@@ -45,6 +12,29 @@ before_none p xs h = take_all (position_or_len p xs) xs h
 
 pub after_none : {X : Type 0} (p : X → Bool) (xs : List X) → length xs ≤ position_or_len p xs → after_first p xs ≡ []
 after_none p xs h = drop_all (position_or_len p xs + 1) xs (omega (arith, h))
+
+-- what stands before the place that a search found, and what stands behind it
+pub before_found : {X : Type 0} (p : X → Bool) (xs : List X) (o : Option ℕ)
+    → o ≡ cond (ltb (position_or_len p xs) (length xs)) (Some (position_or_len p xs)) None
+    → take (unwrap_or o (length xs)) xs ≡ before_first p xs
+before_found p xs o found = by_test (ltb (position_or_len p xs) (length xs)) refl found
+  where
+    by_test : (b : Bool) → ltb (position_or_len p xs) (length xs) ≡ b → o ≡ cond b (Some (position_or_len p xs)) None
+        → take (unwrap_or o (length xs)) xs ≡ before_first p xs
+    by_test true e found = ap (λ o. take (unwrap_or o (length xs)) xs) found
+    by_test false e found =
+        ap (λ o. take (unwrap_or o (length xs)) xs) found ∙ take_all (length xs) xs (omega arith) ∙ sym (before_none p xs (ltb-false _ _ e))
+
+pub after_found : {X : Type 0} (p : X → Bool) (xs : List X) (o : Option ℕ)
+    → o ≡ cond (ltb (position_or_len p xs) (length xs)) (Some (position_or_len p xs)) None
+    → drop (unwrap_or o (length xs) + 1) xs ≡ after_first p xs
+after_found p xs o found = by_test (ltb (position_or_len p xs) (length xs)) refl found
+  where
+    by_test : (b : Bool) → ltb (position_or_len p xs) (length xs) ≡ b → o ≡ cond b (Some (position_or_len p xs)) None
+        → drop (unwrap_or o (length xs) + 1) xs ≡ after_first p xs
+    by_test true e found = ap (λ o. drop (unwrap_or o (length xs) + 1) xs) found
+    by_test false e found =
+        ap (λ o. drop (unwrap_or o (length xs) + 1) xs) found ∙ drop_all (length xs + 1) xs (omega arith) ∙ sym (after_none p xs (ltb-false _ _ e))
 
 -- what is behind is shorter
 pub after_shorter : {X : Type 0} (p : X → Bool) (x : X) (xs : List X) → length (after_first p (x ∷ xs)) ≤ length xs

@@ -7,3 +7,7 @@ pub mod Plain
 pub mod Lawful
 pub mod RoundTrip
 pub mod Keywords
+pub mod Reader
+pub mod Events
+pub mod Generations
+pub mod EventOrder

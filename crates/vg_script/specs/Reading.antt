@@ -10,15 +10,17 @@ use Rattle.vg_script.specs.declared.scripts.Block.{Block}
 use Rattle.vg_script.specs.declared.scripts.Block.TheVariants as blocks
 use Rattle.vg_script.specs.declared.scripts.Script.{Script}
 use Rattle.vg_script.specs.Lines.{lines, without_comment, is_allowed, words}
-use Rattle.vg_script.specs.Statements.{Words, Form, row_of, Statement, Change, At, Process, Then, End, Place, Anywhere, OutsideBlocks, InAProcess, InABlock}
+use Rattle.vg_script.specs.declared.statements.Statement.{Statement}
+use Rattle.vg_script.specs.declared.statements.Statement.TheVariants.{Change, At, Process, Then, End}
+use Rattle.vg_script.specs.Statements.{Words, Form, row_of, Place, Anywhere, OutsideBlocks, InAProcess, InABlock}
 
 -- the largest script, in bytes
 abbrev pub largest_script : ℕ
 largest_script = 262144
 
--- the most events of a script, which are the runs of its groups of edits: none yet
+-- the most events of a script, which are the runs of its groups of edits
 abbrev pub most_events : ℕ
-most_events = 0
+most_events = 999
 
 -- a block that is begun: its line, what it says, and its edits so far, those of a process in groups
 pub data Begun : Type 0 where

@@ -10,6 +10,8 @@ use Rattle.vg_model.specs.declared.routes.RouteWord.{RouteWord}
 use Rattle.vg_model.specs.declared.routes.RouteWord.TheVariants as targets
 use Rattle.vg_script.specs.declared.errors.ScriptCause.{ScriptCause}
 use Rattle.vg_script.specs.declared.errors.ScriptCause.TheVariants as causes
+use Rattle.vg_script.specs.declared.statements.Statement.{Statement}
+use Rattle.vg_script.specs.declared.statements.Statement.TheVariants.{Change, At, Process, Then, End}
 use Rattle.vg_script.specs.Classes.{name_of, number_of, mac_of, prefix_of, kind_of}
 
 -- the words of a line that are still to be read
@@ -98,19 +100,6 @@ abbrev pub a_target : Form RouteWord
 a_target = do
   word ← a_word
   target_by word
-
--- what a statement says
-pub data Statement : Type 0 where
-  -- a change of the graph
-  Change : Edit → Statement
-  -- the edits up to `end` are made at this time
-  At : (time : ℕ) → Statement
-  -- the groups of edits up to `end` are made in turn, `count` times, one each period
-  Process : (name : List ℕ) → (every count : ℕ) → Statement
-  -- the next group begins
-  Then : Statement
-  -- the block is closed
-  End : Statement
 
 -- `interface NAME mac MAC mtu NUMBER up` or `down`, then `filter` or nothing
 abbrev pub interface_form : Form Edit

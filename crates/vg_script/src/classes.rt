@@ -1,5 +1,6 @@
 //! The classes of words.
-ghost use Rattle.std.specs.Prelude.{◌≡◌, ◌≤◌, ◌==◌, IfSome};
+ghost use Rattle.std.specs.Prelude.{◌≡◌, ◌+◌, ◌<◌, ◌≤◌, ◌==◌, length, take, drop, unwrap_or, IfSome};
+ghost use Rattle.std.specs.Option.{ForSome};
 ghost use Rattle.std.specs.List.{before_first, after_first};
 ghost use Rattle.vg_script.specs.Classes.{is_decimal as is_decimal_word, number_of, pair_of, mac_of, address_of, prefix_of, is_word_for as kind_word_is, kind_of};
 
@@ -20,15 +21,24 @@ const SCRIPTED_KINDS: [Kind; 10] = [
     Kind::Pass,
 ];
 
+/// What stands before a place, and what stands behind the byte there: all and nothing where there is no place.
+pub fn split_at(text: &[u8], place: Option<usize>) -> (&[u8], &[u8])
+    requires { ForSome place (λ place. place < length text.now) }
+    ensures before { result.0.now ≡ take (unwrap_or place (length text.now)) text.now }
+    ensures after { result.1.now ≡ drop (unwrap_or place (length text.now) + 1) text.now }
+{
+    match place {
+        Some(place) => (&text[..place], &text[place + 1..]),
+        None => (text, &[]),
+    }
+}
+
 /// What stands before the first such byte, and what stands behind it: all and nothing where there is none.
 pub fn split_at_first(text: &[u8], mark: u8) -> (&[u8], &[u8])
     ensures before { result.0.now ≡ before_first (λ byte. byte == mark) text.now }
     ensures after { result.1.now ≡ after_first (λ byte. byte == mark) text.now }
 {
-    match text.iter().position(|byte| *byte == mark) {
-        Some(place) => (&text[..place], &text[place + 1..]),
-        None => (text, &[]),
-    }
+    split_at(text, text.iter().position(|byte| *byte == mark))
 }
 
 /// Whether the word is decimal digits, the first of several not 0.

@@ -24,7 +24,7 @@ pub enum ScriptCause {
     /// An `at` or `process` begins within a block, a `then` is in no process, an `end` closes no block, or the script ends
     /// within a block.
     Block,
-    /// With the runs that this `at` or `process` asks for, there would be more than are allowed: none are yet.
+    /// With the runs that this `at` or `process` asks for, there would be more than 999.
     TooManyGenerations,
     /// The name is a node's already.
     DoubleName,

@@ -1,14 +1,14 @@
 //! Scripts: the text that says how the graph is edited, read and printed.
 //!
 //! A script is lines of words. Outside blocks stand the edits that are made before the first packet; an `at` or a `process`
-//! begins a block, whose edits are made while packets go through the graph. Blocks are defined, and none is read yet: each
-//! is refused as too many generations.
+//! begins a block, whose edits are made while packets go through the graph.
 #![tactic(auto)]
 
 mod classes;
 pub mod errors;
 pub mod laws;
 pub mod lists;
+mod reader;
 mod reading;
 pub mod scripts;
 mod statements;

@@ -1,11 +1,26 @@
 //! The statements of a script: the words of each.
 ghost use Rattle.std.specs.Prelude.{◌≡◌, option_map, bytes_eq};
-ghost use Rattle.vg_script.specs.Keywords.{keyword_row, found, checked, SaysEdit};
-ghost use Rattle.vg_script.specs.Statements.{row_of, interface_form, node_form, arc_form, adjacency_form, route_form, unroute_form, at_form, process_form};
+ghost use Rattle.vg_script.specs.Keywords.{keyword_row, found};
+ghost use Rattle.vg_script.specs.Statements.{row_of, interface_form, node_form, arc_form, adjacency_form, route_form, unroute_form, at_form, process_form, alone as alone_form};
 
 use crate::errors::ScriptCause;
 use crate::words::Words;
-use vg_model::Edit;
+use vg_model::{Edit, Name};
+
+/// What a line says.
+#[derive(Drop)]
+pub enum Statement {
+    /// An edit, in the block that is begun or outside blocks.
+    Change(Edit),
+    /// A block begins, whose edits are made at this time.
+    At { time: u64 },
+    /// A process begins, whose groups of edits are made in turn, one at the end of each period.
+    Process { name: Name, every: u64, count: u32 },
+    /// The next group of the process begins.
+    Then,
+    /// The block ends.
+    End,
+}
 
 /// The first word of a statement.
 #[derive(Clone, Copy)]
@@ -152,45 +167,52 @@ fn unroute(words: &mut Words) -> Result<Edit, ScriptCause>
     Ok(Edit::Unroute { prefix })
 }
 
-/// The words behind `at`, which no block keeps yet.
-fn at(words: &mut Words) -> Result<(), ScriptCause>
-    ensures { result ≡ checked (at_form words.old) }
+/// The words behind `at`.
+fn at(words: &mut Words) -> Result<Statement, ScriptCause>
+    ensures { at_form words.old ≡ found result words.new }
 {
-    words.number(0, 1_000_000_000_000)?;
-    words.end()
+    let time = words.number(0, 1_000_000_000_000)?;
+    words.end()?;
+    Ok(Statement::At { time })
 }
 
-/// The words behind `process`, which no block keeps yet.
-fn process(words: &mut Words) -> Result<(), ScriptCause>
-    ensures { result ≡ checked (process_form words.old) }
+/// The words behind `process`.
+fn process(words: &mut Words) -> Result<Statement, ScriptCause>
+    ensures { process_form words.old ≡ found result words.new }
 {
-    words.name()?;
+    let name = words.name()?;
     words.fixed("every")?;
-    words.number(1, 1_000_000_000_000)?;
+    let every = words.number(1, 1_000_000_000_000)?;
     words.fixed("count")?;
-    words.number(1, 999)?;
-    words.end()
+    let count = words.number(1, 999)? as u32;
+    words.end()?;
+    Ok(Statement::Process { name, every, count })
 }
 
-/// The edit that a keyword and the words behind it say outside blocks; none may be begun yet.
-pub fn edit(keyword: Keyword, words: &mut Words) -> Result<Edit, ScriptCause>
-    ensures { SaysEdit (keyword_row keyword) words.old result }
+/// A statement that is its first word alone.
+fn alone(statement: Statement, words: &mut Words) -> Result<Statement, ScriptCause>
+    ensures { alone_form statement words.old ≡ found result words.new }
 {
-    match keyword {
-        Keyword::Interface => interface(words),
-        Keyword::Node => node(words),
-        Keyword::Arc => arc(words),
-        Keyword::Adjacency => adjacency(words),
-        Keyword::Route => route(words),
-        Keyword::Unroute => unroute(words),
-        Keyword::At => {
-            at(words)?;
-            Err(ScriptCause::TooManyGenerations)
+    words.end()?;
+    Ok(statement)
+}
+
+impl Statement {
+    /// The statement that a keyword and the words behind it say.
+    pub fn read(keyword: Keyword, words: &mut Words) -> Result<Statement, ScriptCause>
+        ensures { (keyword_row keyword).form words.old ≡ found result words.new }
+    {
+        match keyword {
+            Keyword::Interface => Ok(Statement::Change(interface(words)?)),
+            Keyword::Node => Ok(Statement::Change(node(words)?)),
+            Keyword::Arc => Ok(Statement::Change(arc(words)?)),
+            Keyword::Adjacency => Ok(Statement::Change(adjacency(words)?)),
+            Keyword::Route => Ok(Statement::Change(route(words)?)),
+            Keyword::Unroute => Ok(Statement::Change(unroute(words)?)),
+            Keyword::At => at(words),
+            Keyword::Process => process(words),
+            Keyword::Then => alone(Statement::Then, words),
+            Keyword::End => alone(Statement::End, words),
         }
-        Keyword::Process => {
-            process(words)?;
-            Err(ScriptCause::TooManyGenerations)
-        }
-        Keyword::Then | Keyword::End => Err(ScriptCause::Block),
     }
 }

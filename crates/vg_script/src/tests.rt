@@ -102,9 +102,119 @@ fn the_first_fault_of_the_first_faulty_line_is_named(rt: HostRuntime) {
     assert_refused(&rt, alloc, b"route 10.0.0.1/8 drop", 1, ScriptCause::Prefix);
     assert_refused(&rt, alloc, b"node a kind pg-input", 1, ScriptCause::Kind);
     assert_refused(&rt, alloc, b"at 01", 1, ScriptCause::Number);
-    assert_refused(&rt, alloc, b"at 5", 1, ScriptCause::TooManyGenerations);
-    assert_refused(&rt, alloc, b"end of", 1, ScriptCause::Block);
     assert_refused(&rt, alloc, b"arcs \x00 # a", 1, ScriptCause::Bytes);
+}
+
+/// Asserts that there is one edit, on this line.
+fn assert_line(rt: &impl Abort, edits: &Edits, line: u32) {
+    let edits = edits.as_slice();
+    assert_eq!(rt; edits.len(), 1);
+    assert_eq!(rt; edits[0].line, line);
+}
+
+/// A process of two groups, and a block at the time of its first run.
+fn process_and_block() -> &'static [u8] {
+    b"adjacency east interface pg0 dst 02:00:00:00:00:09
+route 10.0.0.0/8 via east
+process p every 100 count 3
+route 10.0.0.0/8 drop
+then
+route 10.0.0.0/8 via east
+end
+at 100
+route 10.0.0.0/8 local
+end
+"
+}
+
+#[test]
+fn reads_a_process_and_a_block(rt: HostRuntime) -> Result<(), Fail> {
+    let script = parse_script(rt.alloc(), process_and_block())?;
+    assert_eq!(rt; script.start.as_slice().len(), 2);
+    let blocks = script.blocks.as_slice();
+    assert_eq!(rt; blocks.len(), 2);
+    match &blocks[0] {
+        Block::Process {
+            line,
+            name,
+            every,
+            count,
+            groups,
+        } => {
+            assert_eq!(rt; *line, 3);
+            assert_eq!(rt; name.as_str(), "p");
+            assert_eq!(rt; *every, 100);
+            assert_eq!(rt; *count, 3);
+            let groups = groups.as_slice();
+            assert_eq!(rt; groups.len(), 2);
+            assert_line(&rt, &groups[0], 4);
+            assert_line(&rt, &groups[1], 6);
+        }
+        Block::At { .. } => assert!(rt; false, "no process"),
+    }
+    match &blocks[1] {
+        Block::At { line, time, edits } => {
+            assert_eq!(rt; *line, 8);
+            assert_eq!(rt; *time, 100);
+            assert_line(&rt, edits, 9);
+        }
+        Block::Process { .. } => assert!(rt; false, "a process"),
+    }
+    Ok(())
+}
+
+#[test]
+fn what_was_read_is_printed_and_read_again(rt: HostRuntime) -> Result<(), Fail> {
+    let alloc = rt.alloc();
+    let script = parse_script(alloc, process_and_block())?;
+    let text = print_script(alloc, &script).expect(&rt, "memory");
+    assert_eq!(rt; text.as_slice(), process_and_block());
+    let again = parse_script(alloc, text.as_slice())?;
+    assert_eq!(rt; again.blocks.as_slice().len(), 2);
+    laws::events_are_in_order();
+    laws::events_are_few();
+    Ok(())
+}
+
+#[test]
+fn a_block_stands_in_no_block(rt: HostRuntime) {
+    let alloc = rt.alloc();
+    assert_refused(&rt, alloc, b"then", 1, ScriptCause::Block);
+    assert_refused(&rt, alloc, b"end of", 1, ScriptCause::Block);
+    assert_refused(&rt, alloc, b"at 5\nat 01\nend", 2, ScriptCause::Block);
+    assert_refused(&rt, alloc, b"at 5\nprocess\nend", 2, ScriptCause::Block);
+    assert_refused(&rt, alloc, b"at 5\nthen\nend", 2, ScriptCause::Block);
+    assert_refused(&rt, alloc, b"at 5\nend\nend", 3, ScriptCause::Block);
+    assert_refused(&rt, alloc, b"at 5", 1, ScriptCause::Block);
+    assert_refused(
+        &rt,
+        alloc,
+        b"process p every 1 count 1\nthen\n\n# begun\n",
+        4,
+        ScriptCause::Block,
+    );
+}
+
+#[test]
+fn a_script_has_at_most_999_events(rt: HostRuntime) -> Result<(), Fail> {
+    let alloc = rt.alloc();
+    let script = parse_script(alloc, b"process p every 1 count 998\nthen\nend\nat 1\nend")?;
+    assert_eq!(rt; script.blocks.as_slice().len(), 2);
+    assert_refused(
+        &rt,
+        alloc,
+        b"process p every 1 count 999\nend\nat 1",
+        3,
+        ScriptCause::TooManyGenerations,
+    );
+    assert_refused(
+        &rt,
+        alloc,
+        b"at 1\nend\nprocess p every 1 count 999",
+        3,
+        ScriptCause::TooManyGenerations,
+    );
+    Ok(())
 }
 
 #[test]

@@ -5,7 +5,7 @@ ghost use Rattle.vg_script.specs.Keywords.{found};
 ghost use Rattle.vg_script.specs.Lines.{is_blank as blank};
 ghost use Rattle.vg_script.specs.Statements.{a_name, a_mac, a_prefix, a_kind, a_number, a_word, fixed, up_or_down, filter_or_nothing, a_target, end_of_line};
 
-use crate::classes;
+use crate::classes::{self, split_at};
 use crate::errors::ScriptCause;
 use std::marker::Model;
 use vg_model::{Kind, Mac, Name, Prefix, RouteWord};
@@ -35,10 +35,7 @@ fn split_at_blank(text: &[u8]) -> (&[u8], &[u8])
     ensures before { result.0.now ≡ before_first blank text.now }
     ensures after { result.1.now ≡ after_first blank text.now }
 {
-    match text.iter().position(|byte| is_blank(*byte)) {
-        Some(place) => (&text[..place], &text[place + 1..]),
-        None => (text, &[]),
-    }
+    split_at(text, text.iter().position(|byte| is_blank(*byte)))
 }
 
 impl<'a> Words<'a> {
