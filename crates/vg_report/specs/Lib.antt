@@ -1,3 +1,11 @@
 pub mod Text
 pub mod Lawful
 pub mod Examples
+pub mod Words
+pub mod Parts
+pub mod Kinds
+pub mod Forms
+pub mod Reading
+pub mod RoundTrip
+pub mod SoFar
+pub mod Answers

@@ -2,12 +2,21 @@
 //! each packet's fate, and the traces. `specs/Text` says which text, `specs/Lawful` which reports may be.
 #![tactic(auto)]
 
+pub mod errors;
+mod kinds;
+pub mod laws;
+mod lines;
 pub mod lists;
+mod parts;
+mod reading;
 pub mod reports;
 #[cfg(test)]
 mod tests;
+mod words;
 mod writing;
 
+pub use errors::{ReportCause, ReportError};
 pub use lists::{ErrorCounts, NameCounts, Names, PacketLines, TraceLines};
+pub use reading::read_report;
 pub use reports::{PacketEnd, PacketLine, Report};
 pub use writing::write_report;

@@ -1,6 +1,7 @@
 //! The lists of a report. Each is made of a vector and gives it back, and neither copies nor takes memory.
-ghost use Rattle.std.specs.Prelude.{◌≡◌};
+ghost use Rattle.std.specs.Prelude.{◌≡◌, ◌++◌, [], ◌∷◌, MatchResult};
 
+use crate::errors::ReportCause;
 use crate::reports::PacketLine;
 use std::marker::Model;
 use vg_model::{DropError, Name};
@@ -88,6 +89,16 @@ impl NameCounts {
     {
         self.0
     }
+
+    /// Adds an entry behind the others; the error is want of memory.
+    pub(crate) fn push(&mut self, entry: (Name, u64)) -> Result<(), ReportCause>
+        ensures { MatchResult result (λ _. self.new ≡ self.old ++ entry ∷ []) (λ cause. cause ≡ ReportCause.Memory) }
+    {
+        match self.0.push(entry) {
+            Ok(()) => Ok(()),
+            Err(_) => Err(ReportCause::Memory),
+        }
+    }
 }
 
 impl ErrorCounts {
@@ -110,6 +121,16 @@ impl ErrorCounts {
         ensures { result.items ≡ self }
     {
         self.0
+    }
+
+    /// Adds an entry behind the others; the error is want of memory.
+    pub(crate) fn push(&mut self, entry: (Name, DropError, u64)) -> Result<(), ReportCause>
+        ensures { MatchResult result (λ _. self.new ≡ self.old ++ entry ∷ []) (λ cause. cause ≡ ReportCause.Memory) }
+    {
+        match self.0.push(entry) {
+            Ok(()) => Ok(()),
+            Err(_) => Err(ReportCause::Memory),
+        }
     }
 }
 
@@ -134,6 +155,16 @@ impl PacketLines {
     {
         self.0
     }
+
+    /// Adds a packet behind the others; the error is want of memory.
+    pub(crate) fn push(&mut self, packet: PacketLine) -> Result<(), ReportCause>
+        ensures { MatchResult result (λ _. self.new ≡ self.old ++ packet ∷ []) (λ cause. cause ≡ ReportCause.Memory) }
+    {
+        match self.0.push(packet) {
+            Ok(()) => Ok(()),
+            Err(_) => Err(ReportCause::Memory),
+        }
+    }
 }
 
 impl Names {
@@ -157,6 +188,16 @@ impl Names {
     {
         self.0
     }
+
+    /// Adds a name behind the others; the error is want of memory.
+    pub(crate) fn push(&mut self, name: Name) -> Result<(), ReportCause>
+        ensures { MatchResult result (λ _. self.new ≡ self.old ++ name ∷ []) (λ cause. cause ≡ ReportCause.Memory) }
+    {
+        match self.0.push(name) {
+            Ok(()) => Ok(()),
+            Err(_) => Err(ReportCause::Memory),
+        }
+    }
 }
 
 impl TraceLines {
@@ -179,5 +220,15 @@ impl TraceLines {
         ensures { result.items ≡ self }
     {
         self.0
+    }
+
+    /// Adds a trace behind the others; the error is want of memory.
+    pub(crate) fn push(&mut self, trace: Names) -> Result<(), ReportCause>
+        ensures { MatchResult result (λ _. self.new ≡ self.old ++ trace ∷ []) (λ cause. cause ≡ ReportCause.Memory) }
+    {
+        match self.0.push(trace) {
+            Ok(()) => Ok(()),
+            Err(_) => Err(ReportCause::Memory),
+        }
     }
 }

@@ -2,14 +2,38 @@
 ghost use Rattle.std.specs.Prelude.{◌≡◌, ◌≤◌, length, IfOk};
 ghost use Rattle.vg_report.specs.Examples.{two_of_three_sent, every_kind_of_line};
 
+use crate::laws::{read_is_lawful, texts_differ, written_is_read_back};
 use crate::{
-    ErrorCounts, NameCounts, Names, PacketEnd, PacketLine, PacketLines, Report, TraceLines,
-    write_report,
+    ErrorCounts, NameCounts, Names, PacketEnd, PacketLine, PacketLines, Report, ReportCause,
+    TraceLines, read_report, write_report,
 };
 use std::alloc::{AllocError, Global};
 use std::process::Abort;
 use std::test::Fail;
 use vg_model::{DropError, Leg, Legs, Name};
+
+// The report of one worker and three packets, of which two are transmitted and one isn't IPv4.
+const THREE_PACKETS: &[u8] = b"vgd report 1
+workers 1
+buffers 4096
+generations 1
+packets 3
+interface 0 pg0 tx 2
+node 0 pg-input 3
+node 1 handoff-dequeue 0
+node 2 ethernet-input 3
+node 3 ip4-input 0
+node 4 ip4-lookup 0
+node 5 ip4-rewrite 0
+node 6 interface-output 0
+node 7 interface-tx 2
+node 8 error-drop 1
+error ethernet-input unknown-type 1
+packet 0 0:0 tx pg0
+packet 1 0:0 tx pg0
+packet 2 0:0 drop ethernet-input unknown-type
+end
+";
 
 fn name(rt: &impl Abort, text: &[u8]) -> Name
     ensures { result ≡ text.now }
@@ -89,28 +113,7 @@ fn two_of_three(alloc: Global, rt: &impl Abort) -> Result<Report, AllocError>
 fn a_report_of_three_packets(rt: HostRuntime) -> Result<(), Fail> {
     let report = two_of_three(rt.alloc(), &rt)?;
     let text = write_report(rt.alloc(), &report).expect(&rt, "memory");
-    let expected = b"vgd report 1
-workers 1
-buffers 4096
-generations 1
-packets 3
-interface 0 pg0 tx 2
-node 0 pg-input 3
-node 1 handoff-dequeue 0
-node 2 ethernet-input 3
-node 3 ip4-input 0
-node 4 ip4-lookup 0
-node 5 ip4-rewrite 0
-node 6 interface-output 0
-node 7 interface-tx 2
-node 8 error-drop 1
-error ethernet-input unknown-type 1
-packet 0 0:0 tx pg0
-packet 1 0:0 tx pg0
-packet 2 0:0 drop ethernet-input unknown-type
-end
-";
-    assert_eq!(rt; text.as_slice(), expected.as_slice());
+    assert_eq!(rt; text.as_slice(), THREE_PACKETS);
     Ok(())
 }
 
@@ -222,4 +225,107 @@ end
     let last = traces.pop().ok_or("a trace")?;
     assert_eq!(rt; last.into_vec().len(), 3);
     Ok(())
+}
+
+// Whether the names and the counts are the same.
+fn same_counts(one: &[(Name, u64)], other: &[(Name, u64)]) -> bool {
+    one.len() == other.len()
+        && one
+            .iter()
+            .zip(other)
+            .all(|(a, b)| a.0.bytes() == b.0.bytes() && a.1 == b.1)
+}
+
+// Whether the nodes, the errors and the counts are the same.
+fn same_errors(one: &[(Name, DropError, u64)], other: &[(Name, DropError, u64)]) -> bool {
+    one.len() == other.len()
+        && one.iter().zip(other).all(|(a, b)| a.0.bytes() == b.0.bytes()
+            && a.1 == b.1
+            && a.2 == b.2)
+}
+
+// Whether two packets ended the same way.
+fn same_end(one: &PacketEnd, other: &PacketEnd) -> bool {
+    match (one, other) {
+        (PacketEnd::Tx { interface: a }, PacketEnd::Tx { interface: b }) => a.bytes() == b.bytes(),
+        (PacketEnd::Dropped { node: a, error: e }, PacketEnd::Dropped { node: b, error: f }) => {
+            a.bytes() == b.bytes() && e == f
+        }
+        _ => false,
+    }
+}
+
+// Whether the same became of all packets.
+fn same_packets(one: &[PacketLine], other: &[PacketLine]) -> bool {
+    one.len() == other.len()
+        && one.iter().zip(other).all(|(a, b)| {
+            a.legs.as_slice() == b.legs.as_slice()
+                && a.congested == b.congested
+                && same_end(&a.end, &b.end)
+        })
+}
+
+#[test]
+fn a_report_of_three_packets_is_read(rt: HostRuntime) -> Result<(), Fail> {
+    let expected = two_of_three(rt.alloc(), &rt)?;
+    let report = read_report(rt.alloc(), THREE_PACKETS)?;
+    assert_eq!(rt;
+        (report.workers, report.buffers, report.generations),
+        (1, 4096, 1)
+    );
+    assert!(rt; same_counts(report.interfaces.as_slice(), expected.interfaces.as_slice()));
+    assert!(rt; same_counts(report.nodes.as_slice(), expected.nodes.as_slice()));
+    assert!(rt; same_errors(report.errors.as_slice(), expected.errors.as_slice()));
+    assert!(rt; same_packets(report.packets.as_slice(), expected.packets.as_slice()));
+    assert!(rt; report.traces.as_slice().is_empty());
+    Ok(())
+}
+
+// The line and the cause of a text's refusal.
+fn refusal(alloc: Global, text: &[u8]) -> Option<(u32, ReportCause)> {
+    match read_report(alloc, text) {
+        Ok(_) => None,
+        Err(error) => Some((error.line, error.cause)),
+    }
+}
+
+#[test]
+fn a_text_is_refused_at_its_first_faulty_line(rt: HostRuntime) {
+    let form = b"vgd report 1
+workers  1
+";
+    assert_eq!(rt; refusal(rt.alloc(), form), Some((2, ReportCause::Form)));
+    let number = b"vgd report 1
+workers 1
+buffers 16385
+";
+    assert_eq!(rt; refusal(rt.alloc(), number), Some((3, ReportCause::Number)));
+    let unknown = b"vgd report 1
+workers 1
+buffers 0
+generations 1
+packets 0
+interface 0 pg0 tx 0
+interface 1 pg0 tx 0
+";
+    assert_eq!(rt;
+        refusal(rt.alloc(), unknown),
+        Some((7, ReportCause::Unknown))
+    );
+    let order = b"vgd report 1
+workers 1
+buffers 0
+generations 1
+packets 0
+interface 0 pg0 tx 0
+node 1 pg-input 0
+";
+    assert_eq!(rt; refusal(rt.alloc(), order), Some((7, ReportCause::Order)));
+}
+
+#[test]
+fn the_laws_hold() {
+    written_is_read_back();
+    read_is_lawful();
+    texts_differ();
 }
