@@ -1,0 +1,2 @@
+pub mod Forked
+pub mod View

@@ -1,0 +1,139 @@
+//! Forks.
+ghost use Rattle.std.specs.Prelude.{◌≡◌, ◌<◌, Some, IfOk, IfSome, length, slice_get};
+ghost use Rattle.vg_model.specs.Graph.{kind_at, slots, arc as arc_of};
+ghost use Rattle.vg_model.specs.Route.{best_route};
+ghost use Rattle.vg_graph.specs.View.{IsKept};
+ghost use Rattle.vg_fork.specs.Forked.{forked, IsForked};
+
+use std::alloc::Global;
+use std::marker::Model;
+use vg_fib::{Fib, Mtrie};
+use vg_graph::Graph;
+use vg_model::{Adjacency, Interface, Kind, Memory, Prefix, RouteTo};
+
+/// One generation of the whole graph: its nodes, interfaces and adjacencies by number, and its routes in a trie.
+#[derive(Drop)]
+pub struct Fork {
+    graph: Graph,
+    // Which addresses have which routes, for look-ups.
+    trie: Mtrie,
+    // The routes in the order of their table.
+    routes: Vec<(Prefix, RouteTo)>,
+    generation: u32,
+}
+
+impl Model for Fork {
+    ghost use Rattle.vg_fork.specs.Forked.{Forked};
+
+    ghost Value = { Forked };
+
+    ghost use Rattle.vg_fork.specs.View.{view_of, IsFork};
+
+    ghost view = { view_of };
+
+    ghost invariant = { IsFork };
+}
+
+impl Fork {
+    /// The fork of this graph with the routes of this table, under this generation.
+    ///
+    /// # Errors
+    ///
+    /// [`Memory`] where memory runs out.
+    pub fn of(alloc: Global, graph: &Graph, fib: &Fib, generation: u32) -> Result<Fork, Memory>
+        ensures { IfOk result (λ fork. fork ≡ forked graph.now fib.now generation) }
+    {
+        know_kept(graph);
+        let Ok(routes) = Vec::from_slice(alloc, fib.routes()) else {
+            return Err(Memory);
+        };
+        Ok(Fork {
+            graph: graph.copy(alloc)?,
+            trie: Mtrie::build(alloc, fib)?,
+            routes,
+            generation,
+        })
+    }
+
+    /// The generation.
+    pub fn generation(&self) -> u32
+        ensures { result ≡ self.now.generation }
+    {
+        self.generation
+    }
+
+    /// How many nodes there are.
+    pub fn nodes(&self) -> u16
+        ensures count { result ≡ length self.now.graph.nodes }
+        ensures kept { IsForked self.now }
+    {
+        self.graph.nodes()
+    }
+
+    /// How many interfaces there are.
+    pub fn interfaces(&self) -> u16
+        ensures count { result ≡ length self.now.graph.interfaces }
+        ensures kept { IsForked self.now }
+    {
+        self.graph.interfaces()
+    }
+
+    /// How many adjacencies there are.
+    pub fn adjacencies(&self) -> u16
+        ensures count { result ≡ length self.now.graph.adjacencies }
+        ensures kept { IsForked self.now }
+    {
+        self.graph.adjacencies()
+    }
+
+    /// The kind of a node.
+    pub fn kind(&self, n: u16) -> Kind
+        requires { n < length self.now.graph.nodes }
+        ensures kind { kind_at self.now.graph n ≡ Some result }
+        ensures kept { IsForked self.now }
+    {
+        self.graph.kind(n)
+    }
+
+    /// The node that a slot of a node leads to.
+    pub fn arc(&self, n: u16, slot: u8) -> u16
+        requires node { n < length self.now.graph.nodes }
+        requires slot { IfSome (kind_at self.now.graph n) (λ kind. slot < length (slots kind)) }
+        ensures { arc_of self.now.graph n slot ≡ Some result }
+    {
+        self.graph.arc(n, slot)
+    }
+
+    /// An interface.
+    pub fn interface(&self, n: u16) -> &Interface
+        requires { n < length self.now.graph.interfaces }
+        ensures interface { slice_get self.now.graph.interfaces n ≡ Some result.now }
+        ensures kept { IsForked self.now }
+    {
+        self.graph.interface_at(n)
+    }
+
+    /// An adjacency.
+    pub fn adjacency(&self, n: u16) -> &Adjacency
+        requires { n < length self.now.graph.adjacencies }
+        ensures adjacency { slice_get self.now.graph.adjacencies n ≡ Some result.now }
+        ensures kept { IsForked self.now }
+    {
+        self.graph.adjacency_at(n)
+    }
+
+    /// The target of the longest prefix that covers an address, which is in the host's order; `None` exactly where no
+    /// prefix covers it.
+    pub fn find(&self, address: u32) -> Option<RouteTo>
+        ensures { result ≡ best_route self.now.graph.routes address }
+    {
+        self.trie.find(address)
+    }
+}
+
+// Every graph is valid and keeps the limits.
+fn know_kept(graph: &Graph)
+    ensures { IsKept graph.now }
+{
+    let _ = graph.nodes();
+}
