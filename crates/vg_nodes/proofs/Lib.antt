@@ -1,0 +1,3 @@
+pub mod UnderwayLemmas
+pub mod RewriteLemmas
+pub mod SortedLemmas

@@ -1,0 +1,26 @@
+//! What nodes do with packets.
+ghost use Rattle.std.specs.Prelude.{◌≡◌};
+ghost use Rattle.vg_model.specs.Graph.{kind_at};
+ghost use Rattle.vg_model.specs.Valid.{IsTarget, IsKindSet};
+ghost use Rattle.vg_model.specs.Visit.{Visit};
+
+use vg_fork::Fork;
+use vg_model::Step;
+use vg_pool::Buffer;
+
+/// What the nodes of each kind do. It has one meaning, which keeps the laws of visits: a slot over which a packet goes on is one of
+/// the node's, packets are handed over at nodes of kind `WorkerHandoff` alone, an interface on which one is transmitted is in
+/// range, and a packet keeps its number and gets no longer.
+pub trait KindSet: Copy {
+    /// What a visit of a node makes of a packet.
+    ghost meaning: { Visit };
+
+    /// Visits the packet of a buffer at a node, which is of any kind but `PgInput` and `HandoffDequeue`.
+    fn visit(&self, fork: &Fork, node: u16, buffer: &mut Buffer) -> Step
+        requires target { IsTarget (kind_at fork.now.graph node) }
+        ensures visited { (result, buffer.new.packet) ≡ meaning fork.now.graph node buffer.old.packet }
+        ensures legs { buffer.new.legs ≡ buffer.old.legs };
+
+    /// The laws of visits.
+    ghost lawful: { IsKindSet meaning };
+}

@@ -1,0 +1,21 @@
+//! What nodes do with packets, and the dispatch of a frame.
+//!
+//! A [`KindSet`] visits a packet in its buffer at a node. [`dispatch_frame`] visits the packets of a whole frame at one node, and
+//! sorts their indexes by what becomes of them, as a node function of VLIB sorts its frame into next frames. No visit and no
+//! dispatch takes memory or a lock.
+#![tactic(auto)]
+
+pub mod dispatch;
+pub mod entries;
+pub mod ip4;
+pub mod kinds;
+pub mod laws;
+pub mod sorted;
+#[cfg(test)]
+mod tests;
+
+pub use dispatch::dispatch_frame;
+pub use entries::Entries;
+pub use ip4::Ip4Kinds;
+pub use kinds::KindSet;
+pub use sorted::{DropList, HandList, NextList, Sorted, TxList};

@@ -1,0 +1,80 @@
+//! A frame's indexes, sorted by what becomes of their packets.
+ghost use Rattle.std.specs.Prelude.{◌≡◌, IfOk};
+ghost use Rattle.vg_nodes.specs.Sorting.{HasRoom};
+
+use crate::entries::Entries;
+use std::alloc::{AllocError, Global};
+use vg_model::{DropError, Memory, Step};
+
+/// Packets that go on, each with the slot of the node over which it does.
+pub type NextList = Entries<u8>;
+
+/// Packets that are transmitted, each with the number of its interface.
+pub type TxList = Entries<u16>;
+
+/// Packets that the node drops, each with the error.
+pub type DropList = Entries<DropError>;
+
+/// Packets to be handed over, each with the hash that chooses the worker.
+pub type HandList = Entries<u32>;
+
+/// The indexes of a frame after a dispatch, each in the list that its packet's step names.
+#[derive(Drop)]
+pub struct Sorted {
+    pub next: NextList,
+    pub tx: TxList,
+    pub drops: DropList,
+    pub hands: HandList,
+}
+
+impl Sorted {
+    ghost use Rattle.vg_nodes.specs.Sorting.{put, nothing_sorted};
+
+    /// Empty lists, with room for a whole frame in each.
+    ///
+    /// # Errors
+    ///
+    /// [`Memory`] where memory runs out.
+    pub fn new(alloc: Global) -> Result<Sorted, Memory>
+        ensures { IfOk result (λ sorted. sorted ≡ nothing_sorted) }
+    {
+        match Sorted::made(alloc) {
+            Ok(sorted) => Ok(sorted),
+            Err(_) => Err(Memory),
+        }
+    }
+
+    fn made(alloc: Global) -> Result<Sorted, AllocError>
+        ensures { IfOk result (λ sorted. sorted ≡ nothing_sorted) }
+    {
+        Ok(Sorted {
+            next: Entries::new(alloc)?,
+            tx: Entries::new(alloc)?,
+            drops: Entries::new(alloc)?,
+            hands: Entries::new(alloc)?,
+        })
+    }
+
+    /// Puts an index into the list that the step of its packet names, behind those that are there.
+    pub fn put(&mut self, index: u32, step: Step)
+        requires { HasRoom self.old }
+        ensures { self.new ≡ put index step self.old }
+    {
+        match step {
+            Step::Next { slot } => self.next.push(index, slot),
+            Step::Tx { interface } => self.tx.push(index, interface),
+            Step::Dropped { error } => self.drops.push(index, error),
+            Step::Hand { hash } => self.hands.push(index, hash),
+        }
+    }
+
+    /// Removes all indexes from the lists. Their room stays.
+    pub fn clear(&mut self)
+        ensures { self.new ≡ nothing_sorted }
+    {
+        self.next.clear();
+        self.tx.clear();
+        self.drops.clear();
+        self.hands.clear();
+    }
+}
