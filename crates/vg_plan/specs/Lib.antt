@@ -1,0 +1,10 @@
+pub mod Refusals
+pub mod Routed
+pub mod Plan
+pub mod Times
+pub mod View
+pub mod BookView
+pub mod Front
+pub mod Run
+pub mod Progress
+pub mod Master

@@ -1,0 +1,19 @@
+//! The plan of a script: its generations, their times, and the graph that main edits.
+//!
+//! A script's edits outside blocks make generation 0 of the start graph. Each run of a block's group is an event, and makes
+//! the next generation. A packet begins in the generation of the events up to its time, so that each generation has a
+//! limit: the number of the first packet that no longer begins in it or an earlier one.
+#![tactic(auto)]
+
+mod books;
+mod events;
+pub mod laws;
+pub mod masters;
+pub mod plans;
+#[cfg(test)]
+mod tests;
+mod windows;
+
+pub use books::Book;
+pub use masters::Master;
+pub use plans::Plan;

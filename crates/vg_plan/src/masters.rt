@@ -1,0 +1,233 @@
+//! The graph and the routes that main edits, event by event.
+ghost use Rattle.std.specs.Prelude.{◌≡◌, ◌≢◌, IfOk, IfErr, OnOk, OnErr, MatchOption, MatchResult, Ok, Some, slice_get, length};
+ghost use Rattle.vg_model.specs.Start.{start_graph};
+ghost use Rattle.vg_model.specs.Valid.{IsRouteWithin};
+ghost use Rattle.vg_model.specs.Edit.{apply, apply_all, target_of, with_route, without_route};
+ghost use Rattle.vg_graph.specs.Refusals.{IsGraphEdit, cause_of as cause_of_graph};
+ghost use Rattle.vg_script.specs.Causes.{cause_of};
+ghost use Rattle.vg_plan.specs.Refusals.{IsCauseOf, IsRefusalOf, out_of_memory as memory_ran_out};
+ghost use Rattle.vg_plan.specs.Routed.{with_routes};
+
+use crate::plans::Plan;
+use std::alloc::Global;
+use std::marker::Model;
+use vg_fib::{Fib, FibError};
+use vg_graph::{Graph, GraphError};
+use vg_model::{Edit, Edits, Memory, Prefix, RouteTo, RouteWord};
+use vg_script::{ScriptCause, ScriptError};
+
+/// A graph and its table of routes: one whole graph, which is valid.
+#[derive(Drop)]
+pub struct Master {
+    graph: Graph,
+    fib: Fib,
+}
+
+impl Model for Master {
+    ghost use Rattle.vg_model.specs.Graph.{Graph as WholeGraph};
+
+    ghost Value = { WholeGraph };
+
+    ghost use Rattle.vg_plan.specs.Plan.{IsGeneration};
+    ghost use Rattle.vg_plan.specs.Master.{whole};
+
+    ghost view = { whole };
+
+    ghost invariant = { λ master. IsGeneration (whole master) };
+}
+
+// Why a script is refused where the graph refuses an edit.
+fn graph_cause(error: GraphError) -> ScriptCause
+    ensures { MatchOption (cause_of_graph error) (result ≡ ScriptCause.Memory) (λ cause. result ≡ cause_of cause) }
+{
+    match error {
+        GraphError::DoubleName => ScriptCause::DoubleName,
+        GraphError::UnknownNode => ScriptCause::UnknownNode,
+        GraphError::UnknownSlot => ScriptCause::UnknownSlot,
+        GraphError::BadTarget => ScriptCause::BadTarget,
+        GraphError::Cycle => ScriptCause::Cycle,
+        GraphError::TooMany => ScriptCause::TooMany,
+        GraphError::UnknownInterface => ScriptCause::UnknownInterface,
+        GraphError::Memory => ScriptCause::Memory,
+    }
+}
+
+/// The refusal where memory runs out, which names no line.
+pub fn out_of_memory() -> ScriptError
+    ensures { result ≡ memory_ran_out }
+{
+    ScriptError {
+        line: 0,
+        cause: ScriptCause::Memory,
+    }
+}
+
+// The refusal of the edit on this line; no line is named where memory ran out.
+fn refusal(line: u32, cause: ScriptCause) -> ScriptError
+    ensures memory { cause ≡ ScriptCause.Memory → result ≡ memory_ran_out }
+    ensures edit { cause ≢ ScriptCause.Memory → result ≡ record { line = line; cause = cause } }
+{
+    match cause {
+        ScriptCause::Memory => out_of_memory(),
+        _ => ScriptError { line, cause },
+    }
+}
+
+impl Master {
+    ghost use Rattle.vg_plan.specs.Plan.{IsGeneration};
+
+    /// The graph and the routes of a plan's generation 0.
+    ///
+    /// # Errors
+    ///
+    /// [`Memory`] where memory runs out.
+    pub fn new(alloc: Global, plan: &Plan) -> Result<Master, Memory>
+        ensures { IfOk result (λ master. slice_get plan.now.graphs 0 ≡ Some master) }
+    {
+        let mut master = Master::start(alloc)?;
+        match master.make(&plan.script().start) {
+            Ok(()) => Ok(master),
+            // The plan made these edits before: only memory can be wanting.
+            Err(_) => Err(Memory),
+        }
+    }
+
+    // The graph that a run starts from, without routes.
+    pub(crate) fn start(alloc: Global) -> Result<Master, Memory>
+        ensures { IfOk result (λ master. master ≡ start_graph) }
+    {
+        Ok(Master {
+            graph: Graph::start(alloc)?,
+            fib: Fib::new(alloc)?,
+        })
+    }
+
+    /// The graph, without its routes.
+    pub fn graph(&self) -> &Graph
+        ensures graph { with_routes result.now self.now.routes ≡ self.now }
+        ensures generation { IsGeneration self.now }
+    {
+        &self.graph
+    }
+
+    /// The routes.
+    pub fn fib(&self) -> &Fib
+        ensures routes { result.now ≡ self.now.routes }
+        ensures generation { IsGeneration self.now }
+    {
+        &self.fib
+    }
+
+    // An equal master.
+    fn copy(&self, alloc: Global) -> Result<Master, Memory>
+        ensures { IfOk result (λ copy. copy ≡ self.now) }
+    {
+        Ok(Master {
+            graph: self.graph.copy(alloc)?,
+            fib: self.fib.copy()?,
+        })
+    }
+
+    /// Makes the edits, in their order: the group of one event. After a refusal the master is as it was.
+    ///
+    /// # Errors
+    ///
+    /// The line and the cause of the first edit that is refused, as the definitions of edits have it; line 0 and
+    /// [`ScriptCause::Memory`] where memory runs out. The edits of an accepted plan's next event are never refused:
+    /// there this comes for want of memory alone.
+    pub fn apply(&mut self, alloc: Global, edits: &Edits) -> Result<(), ScriptError>
+        ensures made { OnOk result (apply_all self.old edits.now ≡ Ok self.new) }
+        ensures refused { IfErr result (IsRefusalOf (apply_all self.old edits.now)) }
+        ensures same { OnErr result (self.new ≡ self.old) }
+    {
+        let Ok(mut after) = self.copy(alloc) else {
+            return Err(out_of_memory());
+        };
+        after.make(edits)?;
+        *self = after;
+        Ok(())
+    }
+
+    // Makes the edits, in their order. After a refusal those before it are made.
+    pub(crate) fn make(&mut self, edits: &Edits) -> Result<(), ScriptError>
+        ensures made { OnOk result (apply_all self.old edits.now ≡ Ok self.new) }
+        ensures generation { OnOk result (IsGeneration self.new) }
+        ensures refused { IfErr result (IsRefusalOf (apply_all self.old edits.now)) }
+    {
+        for edit in edits.as_slice() {
+            if let Err(cause) = self.edit(&edit.edit) {
+                return Err(refusal(edit.line, cause));
+            }
+        }
+        // A reader tells what the graph keeps.
+        let _graph = self.graph();
+        Ok(())
+    }
+
+    // The master as the edit makes it. After a refusal it is as it was.
+    fn edit(&mut self, edit: &Edit) -> Result<(), ScriptCause>
+        ensures done { OnOk result (apply self.old edit.now ≡ Ok self.new) }
+        ensures refused { IfErr result (IsCauseOf (apply self.old edit.now)) }
+        ensures same { OnErr result (self.new ≡ self.old) }
+    {
+        match edit {
+            Edit::Route { prefix, to } => self.set_route(*prefix, to),
+            Edit::Unroute { prefix } => self.remove_route(*prefix),
+            _ => self.edit_graph(edit),
+        }
+    }
+
+    // Where a route leads, with its adjacency by number.
+    fn target(&self, to: &RouteWord) -> Result<RouteTo, ScriptCause>
+        ensures target { MatchResult result (λ target. target_of self.now to.now ≡ Ok target) (IsCauseOf (target_of self.now to.now)) }
+        ensures within { IfOk result (IsRouteWithin (length self.now.adjacencies)) }
+    {
+        match to {
+            RouteWord::Via(name) => match self.graph.adjacency(name) {
+                Some(adjacency) => Ok(RouteTo::Via(adjacency)),
+                None => Err(ScriptCause::UnknownAdjacency),
+            },
+            RouteWord::Local => Ok(RouteTo::Local),
+            RouteWord::Drop => Ok(RouteTo::Drop),
+        }
+    }
+
+    fn set_route(&mut self, prefix: Prefix, to: &RouteWord) -> Result<(), ScriptCause>
+        ensures done { OnOk result (with_route self.old prefix to.now ≡ Ok self.new) }
+        ensures refused { IfErr result (IsCauseOf (with_route self.old prefix to.now)) }
+        ensures same { OnErr result (self.new ≡ self.old) }
+    {
+        let target = self.target(to)?;
+        match self.fib.set(prefix, target) {
+            Ok(()) => Ok(()),
+            Err(FibError::TooMany) => Err(ScriptCause::TooMany),
+            Err(FibError::Memory) => Err(ScriptCause::Memory),
+        }
+    }
+
+    fn remove_route(&mut self, prefix: Prefix) -> Result<(), ScriptCause>
+        ensures done { OnOk result (without_route self.old prefix ≡ Ok self.new) }
+        ensures refused { IfErr result (IsCauseOf (without_route self.old prefix)) }
+        ensures same { OnErr result (self.new ≡ self.old) }
+    {
+        match self.fib.remove(prefix) {
+            Ok(()) => Ok(()),
+            Err(_) => Err(ScriptCause::NoRoute),
+        }
+    }
+
+    fn edit_graph(&mut self, edit: &Edit) -> Result<(), ScriptCause>
+        requires { IsGraphEdit edit.now }
+        ensures done { OnOk result (apply self.old edit.now ≡ Ok self.new) }
+        ensures refused { IfErr result (IsCauseOf (apply self.old edit.now)) }
+        ensures same { OnErr result (self.new ≡ self.old) }
+    {
+        let answer = self.graph.apply(edit);
+        // A reader tells what the graph keeps.
+        let _nodes = self.graph.nodes();
+        match answer {
+            Ok(()) => Ok(()),
+            Err(error) => Err(graph_cause(error)),
+        }
+    }
+}
