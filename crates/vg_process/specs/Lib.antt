@@ -1,0 +1,6 @@
+pub mod Kept
+pub mod Left
+pub mod Queued
+pub mod Rest
+pub mod Timed
+pub mod Waiting
