@@ -1,0 +1,12 @@
+pub mod SumLemmas
+pub mod OwedLemmas
+pub mod SentLemmas
+pub mod WorkLemmas
+pub mod CountLemmas
+pub mod PutLemmas
+pub mod SortedLemmas
+pub mod FrameLemmas
+pub mod AwayLemmas
+pub mod KeptLemmas
+pub mod DrawLemmas
+pub mod RestLemmas

@@ -1,0 +1,10 @@
+pub mod Ended
+pub mod Progress
+pub mod Round
+pub mod SentEntries
+pub mod Underway
+pub mod Places
+pub mod Works
+pub mod Draws
+pub mod Rest
+pub mod Parcels
