@@ -1,0 +1,11 @@
+pub mod SortLemmas
+pub mod JourneyLemmas
+pub mod LegLemmas
+pub mod RoundLemmas
+pub mod SameFates
+pub mod OrderLemmas
+pub mod WindowLemmas
+pub mod GrowthLemmas
+pub mod StationLemmas
+pub mod TurnLemmas
+pub mod OutcomeLemmas

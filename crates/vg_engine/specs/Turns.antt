@@ -1,0 +1,26 @@
+-- From one generation to the next.
+use Rattle.std.specs.Prelude.{◌≡◌, ℕ, ◌+◌, ◌-◌, List, ◌∷◌, length, drop, slice_get, Some, Ok}
+use Rattle.vg_model.specs.Edit.{apply_all}
+use Rattle.vg_model.specs.Graph.{Graph}
+use Rattle.vg_script.specs.Events.{Event, events}
+use Rattle.vg_plan.specs.Plan.{Planned}
+use Rattle.vg_plan.specs.Routed.{with_routes}
+
+-- the edits of the first event that was left are made
+pub record MakesNext (left : List Event) (before : Graph) (rest : List Event) (after : Graph) : Type 0 where
+  pub event : Event
+  pub first : left ≡ event ∷ rest
+  pub made : apply_all before event.edits ≡ Ok after
+
+-- the graph is that of the generation before this one, whose event is the first of those left
+pub record IsBehind (plan : Planned) (generation : ℕ) (events_left : List Event) (g : Graph) : Type 0 where
+  pub past : ℕ
+  pub next : generation ≡ past + 1
+  pub left : events_left ≡ drop past (events plan.script)
+  pub graph : slice_get plan.graphs past ≡ Some g
+
+-- the graph is that of the last generation, without its routes
+pub record IsLastGraph (graphs : List Graph) (g : Graph) : Type 0 where
+  pub whole : Graph
+  pub is : slice_get graphs (length graphs - 1) ≡ Some whole
+  pub parts : with_routes g whole.routes ≡ whole
