@@ -1,0 +1,9 @@
+pub mod TextLemmas
+pub mod NumberLemmas
+pub mod CheckLemmas
+pub mod RowLemmas
+pub mod StepLemmas
+pub mod SaidLemmas
+pub mod ParseLemmas
+pub mod RunLemmas
+pub mod RangeLemmas

@@ -1,0 +1,5 @@
+pub mod Command
+pub mod Checks
+pub mod Parser
+pub mod Ranges
+pub mod Shown

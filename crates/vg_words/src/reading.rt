@@ -1,0 +1,167 @@
+//! Reading the words of the command line.
+ghost use Rattle.std.specs.Prelude.{◌≡◌, ◌<◌, IfOk, MatchOption, [], false, option_map, length, drop};
+ghost use Rattle.vg_words.specs.Command.{command, built, is_built as is_built_command, load_of, run_of as run_in, texts};
+ghost use Rattle.vg_words.specs.Parser.{option_rule, name_rule, run_app, run_found};
+ghost use Rattle.vg_words.specs.Shown.{run_shown, shown};
+ghost use Rattle.clap.specs.Words.{app_of, fault_of, first_value, found_of, matches_of, rows_of, rule_of};
+
+use crate::checks::are_well_formed;
+use crate::commands::{Command, Run};
+use crate::numbers::{number, number_or_default};
+use clap::error::ErrorKind;
+use clap::{Arg, ArgMatches, Command as Parser};
+use std::alloc::{AllocError, Global};
+use vg_model::Memory;
+
+/// An option of a run, `--NAME VALUE` or `--NAME=VALUE`.
+fn an_option<'a>(alloc: Global, name: &'a str) -> Arg<'a>
+    ensures rule { rule_of result ≡ option_rule name.entry.now }
+    ensures local { result.global ≡ false }
+{
+    Arg::new(alloc, name).long(name)
+}
+
+/// The name of a file of a run.
+fn a_name<'a>(alloc: Global, name: &'a str) -> Arg<'a>
+    ensures rule { rule_of result ≡ name_rule name.entry.now }
+    ensures local { result.global ≡ false }
+{
+    Arg::new(alloc, name).required(true)
+}
+
+/// The parser of the words of `run`.
+fn run_parser<'a>(alloc: Global) -> Result<Parser<'a>, AllocError>
+    ensures { IfOk result (λ parser. app_of parser ≡ run_app) }
+{
+    Parser::new(alloc, "run")
+        .disable_help_flag(true)
+        .arg(an_option(alloc, "workers"))?
+        .arg(an_option(alloc, "buffers"))?
+        .arg(an_option(alloc, "queue"))?
+        .arg(an_option(alloc, "burst"))?
+        .arg(an_option(alloc, "trace"))?
+        .arg(an_option(alloc, "turns"))?
+        .arg(a_name(alloc, "capture"))?
+        .arg(a_name(alloc, "script"))?
+        .arg(a_name(alloc, "tx"))
+}
+
+/// The options and names of the words of a run, of which the first is `run`; None where the parser refuses them.
+fn run_matches<'a>(alloc: Global, words: &'a [&'a str]) -> Result<Option<ArgMatches<'a>>, Memory>
+    ensures { IfOk result (λ matches. MatchOption matches (fault_of run_app (texts words.entry.now) ≡ [] → ⊥)
+        (λ found. (fault_of run_app (texts words.entry.now) ≡ []) × (rows_of (found_of found) ≡ matches_of run_app (texts words.entry.now)))) }
+{
+    let Ok(parser) = run_parser(alloc) else {
+        return Err(Memory);
+    };
+    match parser.try_get_matches_from(words) {
+        Ok(matches) => Ok(Some(matches)),
+        Err(error) => match error.kind() {
+            ErrorKind::OutOfMemory => Err(Memory),
+            _ => Ok(None),
+        },
+    }
+}
+
+/// The run that these options and names say; None where an option's value isn't as it must be.
+fn run_of<'a>(matches: &ArgMatches<'a>) -> Option<Run<'a>>
+    ensures { option_map run_shown result ≡ run_found (first_value (found_of matches.now)) }
+{
+    let capture = matches.get_str("capture")?;
+    let script = matches.get_str("script")?;
+    let tx = matches.get_str("tx")?;
+    let workers = number_or_default(matches.get_str("workers"), 1, 1, 8)?;
+    let fewest_buffers = 256 * workers + 256;
+    let buffers = number_or_default(matches.get_str("buffers"), 4096, fewest_buffers, 16_384)?;
+    let queue = number_or_default(matches.get_str("queue"), 64, 1, 256)?;
+    let burst = number_or_default(matches.get_str("burst"), 256, 1, 256)?;
+    let trace = number_or_default(matches.get_str("trace"), 0, 0, 256)?;
+    Some(Run {
+        workers: workers as u8,
+        buffers: buffers as u32,
+        queue,
+        burst: burst as u32,
+        trace: trace as u32,
+        turns: matches.get_str("turns"),
+        capture,
+        script,
+        tx,
+    })
+}
+
+/// The run that words ask for, of which the first is `run`.
+fn read_run<'a>(alloc: Global, words: &'a [&'a str]) -> Result<Option<Run<'a>>, Memory>
+    requires { 0 < length words.now }
+    ensures { IfOk result (λ run. option_map run_shown run ≡ run_in (drop 1 (texts words.entry.now))) }
+{
+    if !are_well_formed(alloc, &words[1..])? {
+        return Ok(None);
+    }
+    let Some(matches) = run_matches(alloc, words)? else {
+        return Ok(None);
+    };
+    Ok(run_of(&matches))
+}
+
+/// The load that the words behind `load` ask for.
+fn read_load<'a>(words: &[&str]) -> Option<Command<'a>>
+    ensures { option_map shown result ≡ load_of (texts words.now) }
+{
+    match words {
+        [seed, packets, workers] => {
+            let seed = number(seed, 0, u64::MAX)?;
+            let packets = number(packets, 1, 65_536)?;
+            let workers = number(workers, 1, 8)?;
+            Some(Command::Load {
+                seed,
+                packets: packets as u32,
+                workers: workers as u8,
+            })
+        }
+        _ => None,
+    }
+}
+
+/// What words ask for.
+pub fn read_command<'a>(alloc: Global, words: &'a [&'a str]) -> Result<Option<Command<'a>>, Memory>
+    ensures { IfOk result (λ answer. option_map shown answer ≡ command (texts words.entry.now)) }
+{
+    let Some((first, others)) = words.split_first() else {
+        return Ok(None);
+    };
+    if *first == "run" {
+        return Ok(read_run(alloc, words)?.map(Command::Run));
+    }
+    if *first == "load" {
+        return Ok(read_load(others));
+    }
+    Ok(None)
+}
+
+/// Whether what is asked for is built: a run by one worker, whose turns no file says.
+fn is_built(command: &Command<'_>) -> bool
+    ensures { result ≡ is_built_command (shown command.now) }
+{
+    match command {
+        Command::Run(run) => run.workers == 1 && run.turns.is_none(),
+        Command::Load { .. } => false,
+    }
+}
+
+/// What the words after the program's name ask for, as far as it is built.
+///
+/// `run` has three names, of a capture, a script and the savefile to be written, and options between them in any order;
+/// `load` has three numbers. None for all other words, and also, so far, for `load`, for more than one worker and for a
+/// turns file. The only error is want of memory.
+pub fn read_words<'a>(alloc: Global, words: &'a [&'a str]) -> Result<Option<Command<'a>>, Memory>
+    ensures { IfOk result (λ answer. option_map shown answer ≡ built (command (texts words.entry.now))) }
+{
+    let Some(command) = read_command(alloc, words)? else {
+        return Ok(None);
+    };
+    if is_built(&command) {
+        Ok(Some(command))
+    } else {
+        Ok(None)
+    }
+}
