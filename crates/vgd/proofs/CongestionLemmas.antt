@@ -1,8 +1,8 @@
 -- No node drops a packet by congestion: only a full queue does.
-use Rattle.std.proofs.Common.{◌≡◌, ◌≢◌, ℕ, zero, suc, Bool, true, false, List, [], ◌∷◌, length, map, take, refl, sym, ap, subst, ◌==◌, ◌%◌}
+use Rattle.std.proofs.Common.{◌≡◌, ◌≢◌, ℕ, zero, suc, Bool, true, false, List, [], ◌∷◌, ◌<◌, ◌≤◌, ◌+◌, arith, length, take, refl, sym, ap, subst, ◌==◌}
 use Rattle.std.specs.Prelude.{Option, Some, None, option_map, unwrap_or, not, nat_lt, slice_get, if◌then◌else◌, ◌||◌}
 use Rattle.std.specs.List.{AllByRecursion}
-use Rattle.std.proofs.lemmas.Option.{none-some, same_Some}
+use Rattle.std.proofs.lemmas.Option.{none-some, same_Some, slice_get_within}
 use Rattle.vg_model.specs.declared.kinds.Kind.{Kind}
 use Rattle.vg_model.specs.declared.kinds.Kind.TheVariants as kinds
 use Rattle.vg_model.specs.declared.kinds.DropError.{DropError}
@@ -24,10 +24,9 @@ use Rattle.vg_model.specs.Route.{best_route}
 use Rattle.vg_model.specs.Visit.{is_foreign, transmit_interface, dropped, next, header_fault, ip4_input, forwarded, over_interface, over_adjacency, visit_of, ip4_visit, datagram, destination, adjacency_of, version, header_len, total_len, time_to_live}
 use Rattle.vg_model.specs.Leg.{Outcome, Way, Move, Onward, Over, handed, move_of, joined, after_visit, leg_within, leg, most_legs, first_slot}
 use Rattle.vg_model.specs.Leg as outcomes
-use Rattle.vg_model.specs.Journey.{Journey, Course, journey, journeys_from, started, goes_together, finished, first_leg, leg_from, legs_from, end_of}
+use Rattle.vg_model.specs.Journey.{Journey, Choice, journey, journeys_from, journeys, first_leg, leg_from, end_of}
 use Rattle.vg_model.proofs.Journeys.{map_some, then_some}
-use Rattle.vg_capture.specs.declared.captures.Captured.{Captured}
-use Rattle.vg_walk.specs.Walks.{one_leg}
+use Rattle.vgd.proofs.OneWorkerLemmas.{IsNotHanded, alone}
 
 -- a step that is no drop by congestion
 abbrev IsOwnStep : Step → Type 0
@@ -178,38 +177,46 @@ abbrev pub IsOwnEnd : End → Type 0
 IsOwnEnd (ends.Tx interface) = Unit {0}
 IsOwnEnd (ends.Dropped node error) = error ≢ errors.Congestion
 
--- a packet of one leg that no queue refused
-own_finished : (number : ℕ) (course : Course) (j : Journey) → IsOwnOutcome course.outcome → finished number None course ≡ Some j → IsOwnEnd (end_of j.course.outcome)
-own_finished number course j h e = by_outcome course.outcome h refl e
-  where
-    by_outcome : (o : Outcome) → IsOwnOutcome o → course.outcome ≡ o
-        → (if goes_together None o then Some (record { number = number; accepted = None; course = course }) else None) ≡ Some j → IsOwnEnd (end_of j.course.outcome)
-    by_outcome (outcomes.Sent interface) h is e =
-        subst (λ (j : Journey). IsOwnEnd (end_of j.course.outcome)) (same_Some _ _ e) (subst (λ o. IsOwnEnd (end_of o)) (sym is) tt)
-    by_outcome (outcomes.Dropped node error) h is e =
-        subst (λ (j : Journey). IsOwnEnd (end_of j.course.outcome)) (same_Some _ _ e) (subst (λ o. IsOwnEnd (end_of o)) (sym is) h)
-    by_outcome (outcomes.Handed node worker) h is e = absurd (none-some j e)
+own_end : (o : Outcome) → IsNotHanded o → IsOwnOutcome o → IsOwnEnd (end_of o)
+own_end (outcomes.Sent interface) here own = tt
+own_end (outcomes.Dropped node error) here own = own
+own_end (outcomes.Handed node worker) here own = absurd here
 
-own_journey : (g : Graph) (number : ℕ) (bytes : List ℕ) (j : Journey) → journey ip4_visit (g ∷ []) 1 number bytes one_leg ≡ Some j → IsOwnEnd (end_of j.course.outcome)
-own_journey g number bytes j e =
-    let course = then_some (finished number None) (started ip4_visit (g ∷ []) 1 number bytes (0 ∷ [])) j e in
-    own_finished number course.0 j
-    (by_way course.0 (first_leg ip4_visit g 1 (number % 1) (fresh number bytes)) (own_first g 1 (number % 1) (fresh number bytes)) course.1) course.2
-  where
-    by_way : (course : Course) (o : Option Way) → ((way : Way) → o ≡ Some way → IsOwnOutcome way.outcome)
-        → legs_from ip4_visit (g ∷ []) 1 (number % 1) 1 0 [] o ≡ Some course → IsOwnOutcome course.outcome
-    by_way course None own e = absurd (none-some course e)
-    by_way course (Some way) own e = subst (λ (c : Course). IsOwnOutcome c.outcome) (same_Some _ _ e) (own way refl)
+-- a journey of one leg, under one of these generations, of one of so many packets, that no queue refused
+pub record IsOwn (graphs : List Graph) (packets : ℕ) (j : Journey) : Type 0 where
+  pub number : j.number < packets
+  pub generation : ℕ
+  pub within : generation < length graphs
+  pub accepted : j.accepted ≡ None
+  pub legs : j.course.legs ≡ record { worker = 0; generation = generation } ∷ []
+  pub own : IsOwnEnd (end_of j.course.outcome)
 
--- so none of a capture is dropped by congestion, and each has its journey
-pub own_journeys : (g : Graph) (number : ℕ) (packets : List Captured) (js : List Journey)
-    → journeys_from ip4_visit (g ∷ []) 1 number (map (λ p. p.bytes) packets) (map (λ p. one_leg) packets) ≡ Some js
-    → AllByRecursion (λ (j : Journey). IsOwnEnd (end_of j.course.outcome)) js × (length js ≡ length packets)
-own_journeys g number [] js e = subst (λ (l : List Journey). AllByRecursion (λ (j : Journey). IsOwnEnd (end_of j.course.outcome)) l × (length l ≡ 0)) (same_Some _ _ e) (tt, refl)
-own_journeys g number (p ∷ packets) js e =
-    let first = then_some (λ j. option_map (λ js. j ∷ js) (journeys_from ip4_visit (g ∷ []) 1 (suc number) (map (λ p. p.bytes) packets) (map (λ p. one_leg) packets)))
-    (journey ip4_visit (g ∷ []) 1 number p.bytes one_leg) js e in
-    let others = map_some (λ js. first.0 ∷ js) (journeys_from ip4_visit (g ∷ []) 1 (suc number) (map (λ p. p.bytes) packets) (map (λ p. one_leg) packets)) js first.2 in
-    let rest = own_journeys g (suc number) packets others.0 others.1 in
-    subst (λ (l : List Journey). AllByRecursion (λ (j : Journey). IsOwnEnd (end_of j.course.outcome)) l × (length l ≡ suc (length packets))) others.2
-    ((own_journey g number p.bytes first.0 first.1, rest.0), ap suc rest.1)
+own_journey : (graphs : List Graph) (most number : ℕ) (bytes : List ℕ) (choice : Choice) (j : Journey) → number < most → journey ip4_visit graphs 1 number bytes choice ≡ Some j → IsOwn graphs most j
+own_journey graphs most number bytes choice j few e =
+    let one = alone ip4_visit graphs number bytes choice j e in
+    subst (IsOwn graphs most) (sym one.is)
+    (record {
+      number = few;
+      generation = one.generation;
+      within = slice_get_within graphs one.generation one.graph one.there;
+      accepted = refl;
+      legs = refl;
+      own = own_end one.way.outcome one.not_handed (own_first one.graph 1 0 (fresh number bytes) one.way one.first);
+    })
+
+-- so is each journey where there is one worker, and each packet has one
+own_from : (graphs : List Graph) (most number : ℕ) (packets : List (List ℕ)) (choices : List Choice) (js : List Journey) → number + length packets ≤ most
+    → journeys_from ip4_visit graphs 1 number packets choices ≡ Some js → AllByRecursion (IsOwn graphs most) js × (length js ≡ length packets)
+own_from graphs most number [] [] js few e = subst (λ (l : List Journey). AllByRecursion (IsOwn graphs most) l × (length l ≡ 0)) (same_Some _ _ e) (tt, refl)
+own_from graphs most number [] (choice ∷ choices) js few e = absurd (none-some js e)
+own_from graphs most number (bytes ∷ packets) [] js few e = absurd (none-some js e)
+own_from graphs most number (bytes ∷ packets) (choice ∷ choices) js few e =
+    let first = then_some (λ j. option_map (λ js. j ∷ js) (journeys_from ip4_visit graphs 1 (suc number) packets choices)) (journey ip4_visit graphs 1 number bytes choice) js e in
+    let others = map_some (λ js. first.0 ∷ js) (journeys_from ip4_visit graphs 1 (suc number) packets choices) js first.2 in
+    let rest = own_from graphs most (suc number) packets choices others.0 (omega (arith, few)) others.1 in
+    subst (λ (l : List Journey). AllByRecursion (IsOwn graphs most) l × (length l ≡ suc (length packets))) others.2
+    ((own_journey graphs most number bytes choice first.0 (omega (arith, few)) first.1, rest.0), ap suc rest.1)
+
+pub own_journeys : (graphs : List Graph) (packets : List (List ℕ)) (choices : List Choice) (js : List Journey) → journeys ip4_visit graphs 1 packets choices ≡ Some js
+    → AllByRecursion (IsOwn graphs (length packets)) js × (length js ≡ length packets)
+own_journeys graphs packets choices js e = own_from graphs (length packets) 0 packets choices js (omega arith) e

@@ -1,17 +1,15 @@
 -- Lists of counts, entry by entry.
-use Rattle.std.proofs.Common.{◌≡◌, ℕ, suc, ◌+◌, ◌<◌, ◌≤◌, Bool, true, false, cond, List, [], ◌∷◌, ◌++◌, length, map, take, get_or, refl, sym, ap, ◌∙◌, arith, append-nil, append_assoc}
-use Rattle.std.specs.Prelude.{slice_get, slice_index, slice_index_or, Some, filter, flat_map, nat_lt}
-use Rattle.std.specs.List.{enumerate_from, zip}
+use Rattle.std.proofs.Common.{◌≡◌, ℕ, suc, ◌+◌, ◌<◌, ◌≤◌, Bool, true, false, cond, List, [], ◌∷◌, ◌++◌, length, map, take, refl, sym, ap, ◌∙◌, arith, append-nil, append_assoc}
+use Rattle.std.specs.Prelude.{slice_get, slice_index, Some, filter, flat_map, nat_lt}
+use Rattle.std.specs.List.{enumerate_from}
 use Rattle.std.proofs.lemmas.List.{take_more, map_push, length-take-le}
 use Rattle.std.proofs.lemmas.Bool.{lt-ltb, le-ltb}
 use Rattle.std.proofs.lemmas.List.Concat.{flat_map-append}
-use Rattle.std.proofs.lemmas.Slice.Zip.{length-zip, get_or-zip}
 use Rattle.std.proofs.lemmas.Option.{get_or_from_slice_get, slice_get_within}
 use Rattle.vg_model.specs.declared.kinds.DropError.{DropError}
-use Rattle.vg_model.specs.declared.kinds.DropError.TheVariants as errors
 use Rattle.vg_model.specs.Errors.{all_errors}
 use Rattle.vg_model.specs.Graph.{Node}
-use Rattle.vgd.specs.Reports.{counted, errors_made, all_made}
+use Rattle.vgd.specs.Reports.{counted, made_entry, made_of, made_by, all_made}
 
 -- entries with their numbers, and one more behind them
 enumerate_push : {X : Type 0} (k : ℕ) (xs : List X) (x : X) → enumerate_from k (xs ++ x ∷ []) ≡ enumerate_from k xs ++ (k + length xs, x) ∷ []
@@ -38,25 +36,12 @@ counted_more {X} name_of xs counts n x e =
     ap (map entry) (next_numbered xs n x e) ∙ map_push entry (enumerate_from 0 (take n xs)) (n, x)
 
 -- the errors of nodes, and those of one more node
-pub made_more : (nodes : List Node) (counts : List (List ℕ)) (n : ℕ) (node : Node) → slice_get nodes n ≡ Some node
-    → all_made (take (n + 1) nodes) counts ≡ all_made (take n nodes) counts ++ errors_made node.name (slice_index_or counts n [])
-made_more nodes counts n node e =
-    let of_node : ℕ × Node → List (List ℕ × DropError × ℕ) = λ numbered. errors_made numbered.1.name (slice_index_or counts numbered.0 []) in
+pub made_more : (nodes : List Node) (drops : List (List ℕ)) (n : ℕ) (node : Node) → slice_get nodes n ≡ Some node
+    → all_made (take (n + 1) nodes) drops ≡ all_made (take n nodes) drops ++ made_of node.name (made_by drops n) all_errors
+made_more nodes drops n node e =
+    let of_node : ℕ × Node → List (List ℕ × DropError × ℕ) = λ numbered. made_of numbered.1.name (made_by drops numbered.0) all_errors in
     ap (flat_map of_node) (next_numbered nodes n node e) ∙ (flat_map-append of_node (enumerate_from 0 (take n nodes)) ((n, node) ∷ [])
-    ∙ ap (λ l. all_made (take n nodes) counts ++ l) (append-nil (errors_made node.name (slice_index_or counts n []))))
-
--- an error that was made
-abbrev pub made_entry : List ℕ → DropError × ℕ → List ℕ × DropError × ℕ
-made_entry name made = (name, made.0, made.1)
-
--- the errors that were made, of the first so many
-abbrev pub first_errors : List ℕ → List ℕ → ℕ → List (List ℕ × DropError × ℕ)
-first_errors name counts n = filter (λ (entry : List ℕ × DropError × ℕ). nat_lt 0 entry.2) (map (made_entry name) (take n (zip all_errors counts)))
-
--- pairs of two lists, and the next
-zip_more : {X : Type 0} (xs : List X) (ys : List ℕ) (n : ℕ) (d : X) → n < length xs → n < length ys
-    → take (n + 1) (zip xs ys) ≡ take n (zip xs ys) ++ (get_or xs n d, slice_index ys n) ∷ []
-zip_more xs ys n d h k = take_more (zip xs ys) n (d, 0) (omega (arith, length-zip xs ys)) ∙ ap (λ p. take n (zip xs ys) ++ p ∷ []) (get_or-zip xs ys n (d, 0) h k)
+    ∙ ap (λ l. all_made (take n nodes) drops ++ l) (append-nil (made_of node.name (made_by drops n) all_errors)))
 
 -- what passes, and one more
 filter_push : {X : Type 0} (p : X → Bool) (xs : List X) (x : X) → filter p (xs ++ x ∷ []) ≡ filter p xs ++ cond (p x) (x ∷ []) []
@@ -68,30 +53,28 @@ filter_push {X} p (y ∷ xs) x = ap (λ l. cond (p y) (y ∷ l) l) (filter_push 
     by_test false l t = refl
 
 -- the errors that were made, and the next
-pub first_errors_more : (name counts : List ℕ) (n : ℕ) (d : DropError) → n < length all_errors → n < length counts
-    → first_errors name counts (n + 1) ≡ first_errors name counts n
-    ++ cond (nat_lt 0 (slice_index counts n)) ((name, get_or all_errors n d, slice_index counts n) ∷ []) []
-first_errors_more name counts n d h k =
-    ap (λ l. filter (λ (entry : List ℕ × DropError × ℕ). nat_lt 0 entry.2) (map (made_entry name) l)) (zip_more all_errors counts n d h k)
-    ∙ (ap (filter (λ (entry : List ℕ × DropError × ℕ). nat_lt 0 entry.2)) (map_push (made_entry name) (take n (zip all_errors counts)) (get_or all_errors n d, slice_index counts n))
-    ∙ filter_push (λ (entry : List ℕ × DropError × ℕ). nat_lt 0 entry.2) (map (made_entry name) (take n (zip all_errors counts))) (name, get_or all_errors n d, slice_index counts n))
+made_push : (name : List ℕ) (count : DropError → ℕ) (errors : List DropError) (error : DropError)
+    → made_of name count (errors ++ error ∷ []) ≡ made_of name count errors ++ cond (nat_lt 0 (count error)) ((name, error, count error) ∷ []) []
+made_push name count errors error =
+    ap (filter (λ (entry : List ℕ × DropError × ℕ). nat_lt 0 entry.2)) (map_push (made_entry name count) errors error)
+    ∙ filter_push (λ (entry : List ℕ × DropError × ℕ). nat_lt 0 entry.2) (map (made_entry name count) errors) (name, error, count error)
 
 -- an error that was made is added to those before it
-pub error_added : (before so_far after : List (List ℕ × DropError × ℕ)) (name counts copy : List ℕ) (n : ℕ) (d : DropError) → n < length all_errors → n < length counts
-    → 0 < slice_index counts n → so_far ≡ before ++ first_errors name counts n → copy ≡ name
-    → after ≡ so_far ++ (copy, get_or all_errors n d, slice_index counts n) ∷ [] → after ≡ before ++ first_errors name counts (n + 1)
-error_added before so_far after name counts copy n d h k made e same more =
-    more ∙ (ap (λ l. l ++ (copy, get_or all_errors n d, slice_index counts n) ∷ []) e
-    ∙ (ap (λ c. (before ++ first_errors name counts n) ++ (c, get_or all_errors n d, slice_index counts n) ∷ []) same
-    ∙ (append_assoc before (first_errors name counts n) ((name, get_or all_errors n d, slice_index counts n) ∷ [])
-    ∙ ap (λ l. before ++ l) (sym (first_errors_more name counts n d h k
-    ∙ ap (λ b. first_errors name counts n ++ cond b ((name, get_or all_errors n d, slice_index counts n) ∷ []) []) (lt-ltb 0 (slice_index counts n) made))))))
+pub error_added : (before so_far after : List (List ℕ × DropError × ℕ)) (name copy : List ℕ) (count : DropError → ℕ) (errors : List DropError) (error : DropError)
+    → 0 < count error → so_far ≡ before ++ made_of name count errors → copy ≡ name
+    → after ≡ so_far ++ (copy, error, count error) ∷ [] → after ≡ before ++ made_of name count (errors ++ error ∷ [])
+error_added before so_far after name copy count errors error made e same more =
+    more ∙ (ap (λ l. l ++ (copy, error, count error) ∷ []) e
+    ∙ (ap (λ c. (before ++ made_of name count errors) ++ (c, error, count error) ∷ []) same
+    ∙ (append_assoc before (made_of name count errors) ((name, error, count error) ∷ [])
+    ∙ ap (λ l. before ++ l) (sym (made_push name count errors error
+    ∙ ap (λ b. made_of name count errors ++ cond b ((name, error, count error) ∷ []) []) (lt-ltb 0 (count error) made))))))
 
 -- one that was not made isn't
-pub error_passed : (before so_far : List (List ℕ × DropError × ℕ)) (name counts : List ℕ) (n : ℕ) → n < length all_errors → n < length counts
-    → slice_index counts n ≤ 0 → so_far ≡ before ++ first_errors name counts n → so_far ≡ before ++ first_errors name counts (n + 1)
-error_passed before so_far name counts n h k none e =
-    let test : nat_lt 0 (slice_index counts n) ≡ false = le-ltb 0 (slice_index counts n) none in
-    e ∙ ap (λ l. before ++ l) (sym (first_errors_more name counts n errors.Short h k
-    ∙ (ap (λ b. first_errors name counts n ++ cond b ((name, get_or all_errors n errors.Short, slice_index counts n) ∷ []) []) test
-    ∙ append-nil (first_errors name counts n))))
+pub error_passed : (before so_far : List (List ℕ × DropError × ℕ)) (name : List ℕ) (count : DropError → ℕ) (errors : List DropError) (error : DropError)
+    → count error ≤ 0 → so_far ≡ before ++ made_of name count errors → so_far ≡ before ++ made_of name count (errors ++ error ∷ [])
+error_passed before so_far name count errors error none e =
+    let test : nat_lt 0 (count error) ≡ false = le-ltb 0 (count error) none in
+    e ∙ ap (λ l. before ++ l) (sym (made_push name count errors error
+    ∙ (ap (λ b. made_of name count errors ++ cond b ((name, error, count error) ∷ []) []) test
+    ∙ append-nil (made_of name count errors))))

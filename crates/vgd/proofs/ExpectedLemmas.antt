@@ -8,10 +8,12 @@ use Rattle.vg_capture.specs.declared.captures.Capture.{Capture}
 use Rattle.vg_capture.specs.Savefile.{capture_of}
 use Rattle.vgd.specs.declared.refusals.Refusal.{Refusal}
 use Rattle.vgd.specs.declared.refusals.Refusal.TheVariants as refusals
-use Rattle.vgd.specs.Command.{Run, command}
+use Rattle.vg_words.specs.Command.{Run}
+use Rattle.vgd.specs.Command.{run_asked}
 use Rattle.vg_script.specs.declared.errors.ScriptError.{ScriptError}
 use Rattle.vgd.specs.Plan.{graphs_of}
-use Rattle.vgd.proofs.PlanLemmas.{graphs_by, planned_of}
+use Rattle.vg_script.specs.declared.scripts.Script.{Script}
+use Rattle.vgd.proofs.ScriptLemmas.{graphs_by_script, graphs_made}
 use Rattle.vgd.specs.Expected.{IsLoadable, IsExpectedOf, IsExpected, HasNoFault}
 use Rattle.vgd.specs.Run.{Call, AreLoaded, AreAccepted, IsLoadedNext, IsDone, IsRefused, IsDue, status_of, line_of}
 
@@ -45,7 +47,7 @@ loads call run capture_bytes script_bytes name l (inr e) h =
     no_load call l.files run.script script_bytes l.told l.script_file l.no_script_fault (subst (λ n. FailedLoad call.files n (call.faults n) (call.faults_after n)) e.0 h)
 
 -- the run of the words is one
-one_run : (call : Call) (run run' : Run) → command call.words ≡ Some run → command call.words ≡ Some run' → run' ≡ run
+one_run : (call : Call) (run run' : Run) → run_asked call.words ≡ Some run → run_asked call.words ≡ Some run' → run' ≡ run
 one_run call run run' e f = same_Some _ _ (sym f ∙ e)
 
 -- what was loaded is what can be loaded
@@ -62,21 +64,21 @@ same_script_bytes call run run' capture_bytes script_bytes capture_bytes' script
     same_file call.files l.files run.script script_bytes script_bytes' l.told l.script_file (subst (λ (r : Run). IfSome call.files (λ fs. file fs r.script ≡ Some script_bytes')) same a.script_file)
 
 -- what was accepted made these graphs
-accepted_graphs : (call : Call) (run : Run) (capture : Capture) (graphs : List Graph) (a : AreAccepted call run capture graphs) → graphs_of a.script_bytes ≡ Ok graphs
-accepted_graphs call run capture graphs a = graphs_by a.script_bytes a.script a.is_script ∙ planned_of a.script.start graphs a.are_graphs
+accepted_graphs : (call : Call) (run : Run) (capture : Capture) (script : Script) (graphs : List Graph) (a : AreAccepted call run capture script graphs) → graphs_of a.script_bytes ≡ Ok graphs
+accepted_graphs call run capture script graphs a = graphs_by_script a.script_bytes script a.is_script ∙ graphs_made script graphs a.are_graphs
 
 -- what was accepted isn't refused
-accepts : (call : Call) (run run' : Run) (capture_bytes script_bytes : List ℕ) (capture : Capture) (graphs : List Graph) (status : ℕ)
-    → IsLoadable call run capture_bytes script_bytes → AreAccepted call run' capture graphs → IsExpectedOf call run capture_bytes script_bytes status
+accepts : (call : Call) (run run' : Run) (capture_bytes script_bytes : List ℕ) (capture : Capture) (script : Script) (graphs : List Graph) (status : ℕ)
+    → IsLoadable call run capture_bytes script_bytes → AreAccepted call run' capture script graphs → IsExpectedOf call run capture_bytes script_bytes status
     → (status ≡ 0) × HasNoFault call run.tx
-accepts call run run' capture_bytes script_bytes capture graphs status l a (inl e) =
+accepts call run run' capture_bytes script_bytes capture script graphs status l a (inl e) =
     absurd (ok-err capture e.1.0 (sym a.is_capture ∙ ap capture_of (same_capture_bytes call run run' capture_bytes script_bytes a.capture_bytes a.script_bytes l a.loaded) ∙ e.1.1))
-accepts call run run' capture_bytes script_bytes capture graphs status l a (inr e) = by_script e.1
+accepts call run run' capture_bytes script_bytes capture script graphs status l a (inr e) = by_script e.1
   where
     by_script : ((status ≡ 5) × ((error : ScriptError) × (graphs_of script_bytes ≡ Err error))) ⊎ ((status ≡ 0) × ((graphs : List Graph) × (graphs_of script_bytes ≡ Ok graphs)) × HasNoFault call run.tx)
         → (status ≡ 0) × HasNoFault call run.tx
     by_script (inl f) =
-        absurd (ok-err graphs f.1.0 (sym (accepted_graphs call run' capture graphs a)
+        absurd (ok-err graphs f.1.0 (sym (accepted_graphs call run' capture script graphs a)
         ∙ ap graphs_of (same_script_bytes call run run' capture_bytes script_bytes a.capture_bytes a.script_bytes l a.loaded) ∙ f.1.1))
     by_script (inr f) = (f.0, f.2)
 
@@ -101,14 +103,14 @@ refused_expected call run capture_bytes script_bytes status (refusals.Script err
         absurd (ok-err f.1.0 error (sym f.1.1 ∙ sym (ap graphs_of (same_script_bytes call run r.0.run capture_bytes script_bytes r.0.capture_bytes r.0.script_bytes l r.0.loaded)) ∙ r.0.is_fault))
 refused_expected call run capture_bytes script_bytes status (refusals.Save name) l e r =
     let same : r.run ≡ run = one_run call run r.run l.is_command r.accepted.loaded.is_command in
-    let none : HasNoFault call run.tx = (accepts call run r.run capture_bytes script_bytes r.capture r.graphs status l r.accepted e).1 in
+    let none : HasNoFault call run.tx = (accepts call run r.run capture_bytes script_bytes r.capture r.script r.graphs status l r.accepted e).1 in
     absurd (none (subst (λ (n : List ℕ). Rose (call.faults n) (call.faults_after n)) (r.named ∙ ap (λ (q : Run). q.tx) same) r.fault))
 
 -- what is due is what is to be expected
 pub due_expected : (call : Call) (status expected : ℕ) (line : List ℕ) → IsDue call status line → IsExpected call expected → status ≡ expected
 due_expected call status expected line (inl d) (inl e) = absurd (none-some d.1.run (sym e.1 ∙ d.1.accepted.loaded.is_command))
 due_expected call status expected line (inl d) (inr (run, capture_bytes, script_bytes, l, e)) =
-    d.0 ∙ sym (accepts call run d.1.run capture_bytes script_bytes d.1.capture d.1.graphs expected l d.1.accepted e).0
+    d.0 ∙ sym (accepts call run d.1.run capture_bytes script_bytes d.1.capture d.1.script d.1.graphs expected l d.1.accepted e).0
 due_expected call status expected line (inr (refusal, s, t, r)) (inl e) = s ∙ usage refusal r ∙ sym e.0
   where
     usage : (refusal : Refusal) → IsRefused call refusal → status_of refusal ≡ 2

@@ -1,5 +1,5 @@
 -- The report of a log of a valid graph is lawful.
-use Rattle.std.proofs.Common.{◌≡◌, ℕ, zero, suc, ◌+◌, ◌*◌, ◌<◌, ◌≤◌, ◌^◌, Bool, true, false, cond, List, [], ◌∷◌, ◌++◌, length, map, refl, sym, ap, subst, ◌∙◌, arith}
+use Rattle.std.proofs.Common.{◌≡◌, ℕ, zero, suc, ◌+◌, ◌*◌, ◌<◌, ◌≤◌, ◌^◌, Bool, true, false, cond, List, [], ◌∷◌, ◌++◌, length, map, take, refl, sym, ap, subst, ◌∙◌, arith}
 use Rattle.std.specs.Prelude.{filter, flat_map, nat_lt, bytes_eq, slice_get, Option, Some, None, IsSome, IfSome, option_map, unwrap_or}
 use Rattle.std.specs.List.{AllByRecursion, IsDistinct, enumerate_from, position_from}
 use Rattle.std.proofs.lemmas.Bool.{ltb-true, false≢true}
@@ -16,16 +16,15 @@ use Rattle.vg_model.specs.Errors.{error_number, all_errors}
 use Rattle.vg_model.specs.Name.{IsName}
 use Rattle.vg_model.specs.Graph.{Graph, Node, pg_input}
 use Rattle.vg_model.specs.Journey.{Journey, end_of}
-use Rattle.vg_model.specs.Count.{node_count, error_count, interface_count, is_drop, is_sent_on}
+use Rattle.vg_model.specs.Count.{trace, node_count, error_count, interface_count, is_drop, is_sent_on}
 use Rattle.vg_model.proofs.Journeys.{map_some}
 use Rattle.vg_report.specs.declared.reports.Report.{Report}
 use Rattle.vg_report.specs.Lawful.{AreErrorsFrom, IsDeclared, IsEndLawful, IsPacketLawful, IsLawful, names, number_of, error_place}
-use Rattle.vg_walk.specs.declared.logs.Log.{Log}
-use Rattle.vg_walk.specs.Walks.{IsLogOf, IsEndIn, only_leg}
-use Rattle.vgd.specs.Command.{plain_run}
-use Rattle.vgd.specs.Output.{report_of, node_errors, packet_line_of, named_end, node_name, interface_name}
-use Rattle.vgd.specs.Plan.{IsRouter}
-use Rattle.vgd.proofs.CongestionLemmas.{IsOwnEnd}
+use Rattle.vg_engine.specs.Ends.{IsEndIn}
+use Rattle.vg_plan.specs.Plan.{IsGeneration}
+use Rattle.vg_words.specs.Command.{Run}
+use Rattle.vgd.specs.Output.{report_of, node_errors, packet_line_of, named_end, node_name, interface_name, last_graph}
+use Rattle.vgd.proofs.CongestionLemmas.{IsOwn, IsOwnEnd}
 
 -- the names of counts are those of what is counted
 names_are : {X : Type 0} (name_of : X → List ℕ) (count : ℕ → ℕ) (k : ℕ) (xs : List X)
@@ -38,12 +37,6 @@ all_small : {X : Type 0} (name_of : X → List ℕ) (count : ℕ → ℕ) (k : �
     → AllByRecursion (λ (entry : List ℕ × ℕ). entry.1 < 2 ^ 63) (map (λ (numbered : ℕ × X). (name_of numbered.1, count numbered.0)) (enumerate_from k xs))
 all_small name_of count k [] h = tt
 all_small name_of count k (x ∷ xs) h = (h k, all_small name_of count (k + 1) xs h)
-
--- the same, by the counts alone
-small_by : {X : Type 0} (name_of : X → List ℕ) (count : ℕ → ℕ) (k : ℕ) (xs : List X) → AllByRecursion (λ n. n < 2 ^ 63) (map (λ (numbered : ℕ × X). count numbered.0) (enumerate_from k xs))
-    → AllByRecursion (λ (entry : List ℕ × ℕ). entry.1 < 2 ^ 63) (map (λ (numbered : ℕ × X). (name_of numbered.1, count numbered.0)) (enumerate_from k xs))
-small_by name_of count k [] h = tt
-small_by name_of count k (x ∷ xs) h = (h.0, small_by name_of count (k + 1) xs h.1)
 
 -- a name that stands among names that differ is found where it stands
 found_first : (m : ℕ) (ns : List (List ℕ)) (i : ℕ) (n : List ℕ) → IsDistinct bytes_eq ns → slice_get ns i ≡ Some n → position_from (λ other. bytes_eq other n) m ns ≡ Some (m + i)
@@ -132,50 +125,66 @@ end_lawful g interfaces nodes congested (fate_ends.Dropped n error) none within 
     (node n within, (λ some. absurd (false≢true (subst IsSome none some)), λ e. absurd (own e)))
 
 -- the packets' lines
-lines_lawful : (g : Graph) (r : Report) (js : List Journey) → r.workers ≡ 1 → r.generations ≡ 1
-    → AllByRecursion (λ (j : Journey). (j.accepted ≡ None) × (j.course.legs ≡ only_leg ∷ [])) js
-    → AllByRecursion (λ (j : Journey). IsEndIn g (end_of j.course.outcome)) js → AllByRecursion (λ (j : Journey). IsOwnEnd (end_of j.course.outcome)) js
+lines_lawful : (g : Graph) (graphs : List Graph) (packets : ℕ) (r : Report) (js : List Journey) → 1 ≤ r.workers → r.generations ≡ length graphs
+    → AllByRecursion (IsOwn graphs packets) js → AllByRecursion (λ (j : Journey). IsEndIn g (end_of j.course.outcome)) js
     → ((i : ℕ) → i < length g.interfaces → IsDeclared (names r.interfaces) (interface_name g i)) → ((n : ℕ) → n < length g.nodes → IsDeclared (names r.nodes) (node_name g n))
     → AllByRecursion (IsPacketLawful r) (map (packet_line_of g) js)
-lines_lawful g r [] w gs legs ends own interface node = tt
-lines_lawful g r (j ∷ js) w gs legs ends own interface node = (
+lines_lawful g graphs packets r [] w gs own ends interface node = tt
+lines_lawful g graphs packets r (j ∷ js) w gs own ends interface node = (
   record {
-    some = let one = ap length legs.0.1 in omega (arith, one);
-    few = let one = ap length legs.0.1 in omega (arith, one);
-    workers = subst (AllByRecursion (λ (leg : Leg). leg.worker < r.workers)) (sym legs.0.1) (omega (arith, w), tt);
-    generations = subst (AllByRecursion (λ (leg : Leg). leg.generation < r.generations)) (sym legs.0.1) (omega (arith, gs), tt);
-    congested = subst (λ o. IfSome o (λ t. t < 2 ^ 62)) (sym legs.0.0) tt;
-    end = end_lawful g (names r.interfaces) (names r.nodes) j.accepted (end_of j.course.outcome) legs.0.0 ends.0 own.0 interface node;
+    some = let one = ap length own.0.legs in omega (arith, one);
+    few = let one = ap length own.0.legs in omega (arith, one);
+    workers = subst (AllByRecursion (λ (leg : Leg). leg.worker < r.workers)) (sym own.0.legs) (omega (arith, w), tt);
+    generations = subst (AllByRecursion (λ (leg : Leg). leg.generation < r.generations)) (sym own.0.legs)
+        ((let within : own.0.generation < length graphs = own.0.within in omega (arith, within, gs)), tt);
+    congested = subst (λ o. IfSome o (λ t. t < 2 ^ 62)) (sym own.0.accepted) tt;
+    end = end_lawful g (names r.interfaces) (names r.nodes) j.accepted (end_of j.course.outcome) own.0.accepted ends.0 own.0.own interface node;
   },
-  lines_lawful g r js w gs legs.1 ends.1 own.1 interface node,
+  lines_lawful g graphs packets r js w gs own.1 ends.1 interface node,
 )
 
 -- a list of counts has as many entries as what is counted
 as_many : {X Y : Type 0} (f : ℕ × X → Y) (xs : List X) → length (map f (enumerate_from 0 xs)) ≡ length xs
 as_many f xs = length-map (enumerate_from 0 xs) f ∙ length-enumerate_from 0 xs
 
+-- what a report's numbers are taken from is in range
+pub record IsReportable (run : Run) (graphs : List Graph) (packets : ℕ) (js : List Journey) : Type 0 where
+  pub workers : (1 ≤ run.workers) × (run.workers ≤ 8)
+  pub buffers : run.buffers ≤ 16384
+  pub trace : run.trace ≡ 0
+  pub generations : (1 ≤ length graphs) × (length graphs ≤ 1000)
+  pub last : IsGeneration (last_graph graphs)
+  pub few : length js ≤ 65536
+  pub small : (node : ℕ) → node_count node js < 2 ^ 63
+  pub own : AllByRecursion (IsOwn graphs packets) js
+  pub ends : AllByRecursion (λ (j : Journey). IsEndIn (last_graph graphs) (end_of j.course.outcome)) js
+
 -- the whole report
-pub report_lawful : (g : Graph) (log : Log) (js : List Journey) (capture script tx : List ℕ) (report : Report) → report ≡ report_of (plain_run capture script tx) (g ∷ []) js
-    → IsRouter g → IsLogOf g js log → length js ≤ 65536 → AllByRecursion (λ (j : Journey). IsOwnEnd (end_of j.course.outcome)) js
+pub report_lawful : (run : Run) (graphs : List Graph) (packets : ℕ) (js : List Journey) (report : Report) → report ≡ report_of run graphs js → IsReportable run graphs packets js
     → AllByRecursion (λ (entry : List ℕ × ℕ). IsName entry.0) report.interfaces → AllByRecursion (λ (entry : List ℕ × ℕ). IsName entry.0) report.nodes → IsLawful report
-report_lawful g log js capture script tx report is router logged few own interface_names node_names =
-    let r : Report = report_of (plain_run capture script tx) (g ∷ []) js in
+report_lawful run graphs packets js report is able interface_names node_names =
+    let g : Graph = last_graph graphs in
+    let r : Report = report_of run graphs js in
+    let last = able.last in
+    let few = able.few in
     let interfaces_are : names r.interfaces ≡ map (λ i. i.name) g.interfaces = names_are (λ i. i.name) (λ n. interface_count n js) 0 g.interfaces in
     let nodes_are : names r.nodes ≡ map (λ (n : Node). n.name) g.nodes = names_are (λ (n : Node). n.name) (λ n. node_count n js) 0 g.nodes in
-    let interfaces_differ : IsDistinct bytes_eq (names r.interfaces) = subst (IsDistinct bytes_eq) (sym interfaces_are) router.valid.interface_names in
-    let nodes_differ : IsDistinct bytes_eq (names r.nodes) = subst (IsDistinct bytes_eq) (sym nodes_are) router.valid.node_names in
+    let interfaces_differ : IsDistinct bytes_eq (names r.interfaces) = subst (IsDistinct bytes_eq) (sym interfaces_are) last.valid.interface_names in
+    let nodes_differ : IsDistinct bytes_eq (names r.nodes) = subst (IsDistinct bytes_eq) (sym nodes_are) last.valid.node_names in
     let interfaces_long : length r.interfaces ≡ length g.interfaces = as_many (λ i. (i.1.name, interface_count i.0 js)) g.interfaces in
     let nodes_long : length r.nodes ≡ length g.nodes = as_many (λ (n : ℕ × Node). (n.1.name, node_count n.0 js)) g.nodes in
-    let node = map_some (λ (n : Node). n.kind) (slice_get g.nodes pg_input) _ router.valid.source in
+    let node = map_some (λ (n : Node). n.kind) (slice_get g.nodes pg_input) _ last.valid.source in
     let some_node : 0 < length g.nodes = slice_get_within g.nodes pg_input node.0 node.1 in
+    let none : take run.trace js ≡ [] = ap (λ n. take n js) able.trace in
+    let no_traces : r.traces ≡ [] = ap (map (λ j. map (node_name g) (trace j))) none in
     subst IsLawful (sym is)
     (record {
-      workers = (omega arith, omega arith);
-      buffers = omega arith;
-      generations = (omega arith, omega arith);
+      workers = able.workers;
+      buffers = able.buffers;
+      generations = able.generations;
       interfaces = record {
-        some = omega (arith, interfaces_long, router.valid.interfaces);
-        few = omega (arith, interfaces_long, router.few_interfaces);
+        some = omega (arith, interfaces_long, last.valid.interfaces);
+        few = omega (arith, interfaces_long, last.few_interfaces);
         are_names = subst (λ (r : Report). AllByRecursion (λ (entry : List ℕ × ℕ). IsName entry.0) r.interfaces) is interface_names;
         differ = interfaces_differ;
         small = all_small (λ i. i.name) (λ n. interface_count n js) 0 g.interfaces
@@ -183,18 +192,18 @@ report_lawful g log js capture script tx report is router logged few own interfa
       };
       nodes = record {
         some = omega (arith, nodes_long, some_node);
-        few = omega (arith, nodes_long, router.few_nodes);
+        few = omega (arith, nodes_long, last.few_nodes);
         are_names = subst (λ (r : Report). AllByRecursion (λ (entry : List ℕ × ℕ). IsName entry.0) r.nodes) is node_names;
         differ = nodes_differ;
-        small = small_by (λ (n : Node). n.name) (λ n. node_count n js) 0 g.nodes (subst (AllByRecursion (λ n. n < 2 ^ 63)) logged.counts.visits logged.counts.small);
+        small = all_small (λ (n : Node). n.name) (λ n. node_count n js) 0 g.nodes able.small;
       };
       errors = errors_lawful (names r.nodes) js 0 g.nodes
           (λ i n e. declared_entry (λ (n : Node). n.name) g.nodes (names r.nodes) nodes_are nodes_differ i n e ∙ ap Some (omega arith))
           (λ n error. let le = count_by-le-length (λ (j : Journey). is_drop n error (end_of j.course.outcome)) js in omega (arith, le, few)) 0 (omega arith);
       few_packets = let long = length-map js (packet_line_of g) in omega (arith, long, few);
-      packets = lines_lawful g r js refl refl logged.legs logged.ends own
+      packets = lines_lawful g graphs packets r js able.workers.0 refl able.own able.ends
           (declared_at (λ i. i.name) g.interfaces (names r.interfaces) interfaces_are interfaces_differ)
           (declared_at (λ (n : Node). n.name) g.nodes (names r.nodes) nodes_are nodes_differ);
-      few_traces = (omega arith, omega arith);
-      traces = tt;
+      few_traces = let none_long = ap length no_traces in (omega (arith, none_long), omega (arith, none_long));
+      traces = subst (AllByRecursion _) (sym no_traces) tt;
     })

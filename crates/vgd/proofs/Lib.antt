@@ -1,8 +1,13 @@
 pub mod CongestionLemmas
 pub mod CountLemmas
 pub mod ExpectedLemmas
+pub mod LawLemmas
+pub mod OutputLemmas
 pub mod LawfulLemmas
-pub mod PlanLemmas
+pub mod OneWorkerLemmas
 pub mod PrintLemmas
 pub mod ReportLemmas
 pub mod RunLemmas
+pub mod ScriptLemmas
+pub mod SentLemmas
+pub mod WordLemmas

@@ -2,15 +2,11 @@
 use Rattle.std.proofs.Common.{◌≡◌, ℕ, ◌+◌, ◌<◌, ◌⊎◌, List, [], ◌∷◌, length, map, take, refl, sym, ap, subst, ◌∙◌, inl, inr, arith}
 use Rattle.std.specs.Prelude.{Option, Some, None, IfSome, IsSomeAnd, Result, Ok, Err, IfOk, if◌then◌else◌}
 use Rattle.std.specs.Borrow.{Bor}
-use Rattle.std.specs.List.{AllByRecursion}
 use Rattle.std.proofs.lemmas.Bool.{cases_lt, lt-ltb}
 use Rattle.std.proofs.lemmas.List.{take_all, length-take-le}
 use Rattle.vg_model.specs.declared.Memory.{Memory}
-use Rattle.vg_model.specs.declared.fates.Leg.{Leg}
 use Rattle.vg_model.specs.Graph.{Graph}
 use Rattle.vg_model.specs.Visit.{ip4_visit}
-use Rattle.vg_model.specs.Journey.{Journey, journeys}
-use Rattle.vg_model.specs.Lawful.{StartsAt, IsRefusalLawful, AreLawfulChoices}
 use Rattle.vg_outside.specs.Files.{Files, file, Rose, FirstBytes, FailedLoad, HoldsBytes, SameElsewhere}
 use Rattle.vg_capture.specs.declared.captures.Capture.{Capture}
 use Rattle.vg_capture.specs.Savefile.{capture_of, largest_file, savefile, pairs}
@@ -20,73 +16,22 @@ use Rattle.vg_script.specs.declared.errors.ScriptCause.TheVariants as causes
 use Rattle.vg_script.specs.declared.scripts.Script.{Script}
 use Rattle.vg_script.specs.Lines.{lines}
 use Rattle.vg_script.specs.Reading.{script_of, script_of_lines, refused, largest_script}
-use Rattle.vg_fib.specs.Table.{Routes}
 use Rattle.vg_report.specs.declared.reports.Report.{Report}
 use Rattle.vg_report.specs.Text.{text}
-use Rattle.vg_walk.specs.declared.logs.Log.{Log}
-use Rattle.vg_walk.specs.Walks.{with_routes, one_leg, only_leg, frames, IsLogOf}
 use Rattle.vgd.specs.declared.reading.Input.{Input}
 use Rattle.vgd.specs.declared.refusals.Refusal.{Refusal}
 use Rattle.vgd.specs.declared.refusals.Refusal.TheVariants as refusals
 use Rattle.vgd.specs.declared.refusals.Stop.{Stop}
 use Rattle.vgd.specs.declared.refusals.Stop.TheVariants as stops
 use Rattle.vgd.specs.declared.run.Due.{Due}
-use Rattle.vgd.specs.Command.{Run, command, plain_run}
-use Rattle.vgd.specs.Plan.{planned, graphs_of}
+use Rattle.vg_plan.specs.Plan.{Planned, first_generation}
+use Rattle.vg_words.specs.Command.{Run}
+use Rattle.vgd.specs.Command.{run_asked}
+use Rattle.vgd.specs.Plan.{graphs_by, graphs_of}
 use Rattle.vgd.specs.Run.{Call, AreLoaded, AreAccepted, AreFirstBytes, IsLoadedNext, IsRefused, IsDue, status_of, line_of}
 use Rattle.vgd.specs.Stops.{OnRefusal, IsLoadOf, IsRefusedFor, AreRead}
 use Rattle.vgd.specs.Dues.{IsDueFor}
-use Rattle.vgd.specs.Output.{IsOutput, report_of, choices_of}
-use Rattle.vgd.proofs.ReportLemmas.{choices_are}
-use Rattle.vgd.proofs.CongestionLemmas.{own_journeys}
-
--- the log of a graph's lists is that of the whole graph
-pub log_of : (g : Graph) (routes : Routes) (log : Log) (js : List Journey) → IsLogOf (with_routes g routes) js log → IsLogOf g js log
-log_of g routes log js is = record {
-  are_fates = is.are_fates;
-  are_sent = is.are_sent;
-  counts = record { visits = is.counts.visits; drops = is.counts.drops; sends = is.counts.sends; small = is.counts.small };
-  legs = is.legs;
-  ends = is.ends;
-}
-
--- the report by a graph's lists is that by the whole graph
-pub reported_whole : (g whole : Graph) (routes : Routes) (log : Log) (js : List Journey) (report : Report) → with_routes g routes ≡ whole → IsLogOf whole js log
-    → ((js : List Journey) → IsLogOf g js log → (capture script tx : List ℕ) → report ≡ report_of (plain_run capture script tx) (g ∷ []) js)
-    → (capture script tx : List ℕ) → report ≡ report_of (plain_run capture script tx) (whole ∷ []) js
-reported_whole g whole routes log js report seen logged reported capture script tx =
-    reported js (log_of g routes log js (subst (λ h. IsLogOf h js log) (sym seen) logged)) capture script tx
-    ∙ ap (λ h. report_of (plain_run capture script tx) (h ∷ []) js) seen
-
--- the choices behind journeys of one leg that no queue refused are lawful
-starts_at : (js : List Journey) → AllByRecursion (λ (j : Journey). (j.accepted ≡ None) × (j.course.legs ≡ only_leg ∷ [])) js
-    → AllByRecursion (λ (j : Journey). StartsAt 1 0 (map (λ (leg : Leg). leg.generation) j.course.legs)) js
-starts_at [] all = tt
-starts_at (j ∷ js) all =
-    (subst (λ (legs : List Leg). StartsAt 1 0 (map (λ (leg : Leg). leg.generation) legs)) (sym all.0.1) (refl, (omega arith, omega arith, tt)), starts_at js all.1)
-
-no_refusals : (slots : ℕ) (js all_js : List Journey) → AllByRecursion (λ (j : Journey). (j.accepted ≡ None) × (j.course.legs ≡ only_leg ∷ [])) js
-    → AllByRecursion (λ (j : Journey). IsRefusalLawful slots all_js j j.accepted j.course.outcome) js
-no_refusals slots [] all_js all = tt
-no_refusals slots (j ∷ js) all_js all = (subst (λ o. IsRefusalLawful slots all_js j o j.course.outcome) (sym all.0.0) tt, no_refusals slots js all_js all.1)
-
--- the savefile and the report of the log are the run's
-pub output_is : (g : Graph) (capture : Capture) (log : Log) (js : List Journey) (report : Report) (tx : List ℕ)
-    → journeys ip4_visit (g ∷ []) 1 (frames capture.packets) (map (λ p. one_leg) capture.packets) ≡ Some js → IsLogOf g js log
-    → ((capture_name script_name tx_name : List ℕ) → report ≡ report_of (plain_run capture_name script_name tx_name) (g ∷ []) js) → tx ≡ savefile capture (pairs log.sent.items)
-    → (capture_name script_name tx_name : List ℕ) → IsOutput ip4_visit (g ∷ []) (λ i. 0) (plain_run capture_name script_name tx_name) capture report tx
-output_is g capture log js report tx are_journeys logged reported is capture_name script_name tx_name =
-    let count = (own_journeys g 0 capture.packets js are_journeys).1 in
-    let choices : choices_of report ≡ map (λ p. one_leg) capture.packets =
-    ap choices_of (reported capture_name script_name tx_name) ∙ choices_are g js capture.packets logged.legs count in
-    let lawful : AreLawfulChoices ip4_visit (g ∷ []) 1 64 (λ i. 0) (frames capture.packets) (map (λ p. one_leg) capture.packets) js =
-    record { are_journeys = are_journeys; lawful = record { generations = starts_at js logged.legs; refusals = no_refusals 64 js js logged.legs } } in
-    record {
-      js = js;
-      lawful = subst (λ cs. AreLawfulChoices ip4_visit (g ∷ []) 1 64 (λ i. 0) (frames capture.packets) cs js) (sym choices) lawful;
-      reported = reported capture_name script_name tx_name;
-      saved = is ∙ ap (savefile capture) logged.are_sent;
-    }
+use Rattle.vgd.specs.Output.{IsOutput}
 
 -- what is there and has a property
 some_and : {X : Type 0} (P : X → Type 0) (o : Option X) → IsSomeAnd o P → (x : X) × (o ≡ Some x) × P x
@@ -110,7 +55,7 @@ long_script text h = ap (λ b. if b then refused 0 causes.TooLarge else script_o
 
 -- scripts that are read alike make the same graphs
 graphs_by_script : (one other : List ℕ) → script_of one ≡ script_of other → graphs_of one ≡ graphs_of other
-graphs_by_script one other e = ap (λ (r : Result Script ScriptError). elim r as (λ _. Result (List Graph) ScriptError) [ Ok script ↦ planned script.start | Err error ↦ Err error ]) e
+graphs_by_script one other e = ap (λ (r : Result Script ScriptError). elim r as (λ _. Result (List Graph) ScriptError) [ Ok script ↦ graphs_by script | Err error ↦ Err error ]) e
 
 -- the first bytes of a script decide
 same_script : (all bytes : List ℕ) → (all ≡ bytes) ⊎ (bytes ≡ take (largest_script + 1) all) → script_of bytes ≡ script_of all
@@ -130,7 +75,7 @@ pub record AreWhole (call : Call) (run : Run) (capture_bytes script_bytes : List
   pub capture : capture_of capture_bytes ≡ capture_of whole_capture
   pub script : script_of script_bytes ≡ script_of whole_script
 
-pub loaded_whole : (call : Call) (run : Run) (capture_bytes script_bytes : List ℕ) → command call.words ≡ Some run
+pub loaded_whole : (call : Call) (run : Run) (capture_bytes script_bytes : List ℕ) → run_asked call.words ≡ Some run
     → AreFirstBytes call.files run.capture run.script capture_bytes script_bytes → AreWhole call run capture_bytes script_bytes
 loaded_whole call run capture_bytes script_bytes is first =
     let c = whole_file call.files run.capture (largest_file + 1) capture_bytes first.capture in
@@ -144,7 +89,7 @@ loaded_whole call run capture_bytes script_bytes is first =
     }
 
 -- a file couldn't be loaded
-pub refused_load : (call : Call) (run : Run) (refusal : Refusal) → command call.words ≡ Some run
+pub refused_load : (call : Call) (run : Run) (refusal : Refusal) → run_asked call.words ≡ Some run
     → IsLoadOf (λ failed. IsLoadedNext call.files run.capture run.script failed × FailedLoad call.files failed (call.faults failed) (call.faults_after failed)) refusal
     → call.files_after ≡ call.files → IsRefused call refusal
 refused_load call run refusals.Usage is h same = absurd h
@@ -154,7 +99,7 @@ refused_load call run (refusals.Script error) is h same = absurd h
 refused_load call run (refusals.Save name) is h same = absurd h
 
 -- the capture or the script is refused
-pub refused_read : (call : Call) (run : Run) (capture_bytes script_bytes : List ℕ) (refusal : Refusal) → command call.words ≡ Some run
+pub refused_read : (call : Call) (run : Run) (capture_bytes script_bytes : List ℕ) (refusal : Refusal) → run_asked call.words ≡ Some run
     → AreFirstBytes call.files run.capture run.script capture_bytes script_bytes → IsRefusedFor capture_bytes script_bytes refusal
     → call.files_after ≡ call.files → IsRefused call refusal
 refused_read call run capture_bytes script_bytes refusals.Usage is first h same = absurd h
@@ -178,19 +123,17 @@ refused_read call run capture_bytes script_bytes (refusals.Script error) is firs
 refused_read call run capture_bytes script_bytes (refusals.Save name) is first h same = absurd h
 
 -- both are accepted
-pub accepted_read : (call : Call) (run : Run) (capture_bytes script_bytes : List ℕ) (input : Input) → command call.words ≡ Some run
+pub accepted_read : (call : Call) (run : Run) (capture_bytes script_bytes : List ℕ) (input : Input) → run_asked call.words ≡ Some run
     → AreFirstBytes call.files run.capture run.script capture_bytes script_bytes → AreRead capture_bytes script_bytes input
-    → AreAccepted call run input.capture (input.router ∷ [])
+    → AreAccepted call run input.capture input.plan.script input.plan.graphs
 accepted_read call run capture_bytes script_bytes input is first h =
     let w = loaded_whole call run capture_bytes script_bytes is first in
     record {
       capture_bytes = w.whole_capture;
       script_bytes = w.whole_script;
-      script = h.makes.script;
       loaded = w.loaded;
       is_capture = sym w.capture ∙ h.is_capture;
       is_script = sym w.script ∙ h.makes.is_script;
-      no_blocks = h.makes.no_blocks;
       are_graphs = h.makes.are_graphs;
     }
 
@@ -208,15 +151,15 @@ stopped_due call (stops.Refused refusal) P (Ok due) d h f = inr (refusal, d.0, d
 stopped_due call stop P (Err e) d h f = tt
 
 -- the savefile was saved
-pub done_due : (call : Call) (capture_name script_name tx_name : List ℕ) (capture : Capture) (graphs : List Graph) (report : Report) (tx line : List ℕ)
-    → AreAccepted call (plain_run capture_name script_name tx_name) capture graphs
-    → IsOutput ip4_visit graphs (λ i. 0) (plain_run capture_name script_name tx_name) capture report tx → line ≡ text report
-    → HoldsBytes call.files_after tx_name tx → SameElsewhere call.files call.files_after tx_name → IsDue call 0 line
-done_due call capture_name script_name tx_name capture graphs report tx line accepted output printed saved others = inl (
+pub done_due : (call : Call) (run : Run) (capture : Capture) (script : Script) (graphs : List Graph) (report : Report) (tx line : List ℕ)
+    → AreAccepted call run capture script graphs → IsOutput ip4_visit graphs (first_generation script capture) run capture report tx → line ≡ text report
+    → HoldsBytes call.files_after run.tx tx → SameElsewhere call.files call.files_after run.tx → IsDue call 0 line
+done_due call run capture script graphs report tx line accepted output printed saved others = inl (
   refl,
   record {
-    run = plain_run capture_name script_name tx_name;
+    run = run;
     capture = capture;
+    script = script;
     graphs = graphs;
     report = report;
     tx = tx;
@@ -229,12 +172,13 @@ done_due call capture_name script_name tx_name capture graphs report tx line acc
 )
 
 -- the savefile couldn't be saved
-pub save_fault : (call : Call) (capture_name script_name tx_name : List ℕ) (name : Bor (List ℕ)) (capture : Capture) (graphs : List Graph) → name.now ≡ tx_name
-    → AreAccepted call (plain_run capture_name script_name tx_name) capture graphs
+pub save_fault : (call : Call) (run : Run) (name : Bor (List ℕ)) (capture : Capture) (script : Script) (graphs : List Graph) → name.now ≡ run.tx
+    → AreAccepted call run capture script graphs
     → Rose (call.faults name.now) (call.faults_after name.now) → SameElsewhere call.files call.files_after name.now → IsRefused call (refusals.Save name)
-save_fault call capture_name script_name tx_name name capture graphs named accepted fault others = record {
-  run = plain_run capture_name script_name tx_name;
+save_fault call run name capture script graphs named accepted fault others = record {
+  run = run;
   capture = capture;
+  script = script;
   graphs = graphs;
   accepted = accepted;
   named = named;

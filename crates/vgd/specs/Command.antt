@@ -1,34 +1,17 @@
--- The words of the command line (this project's profile).
-use Rattle.std.specs.Prelude.{ℕ, Bool, false, not, ◌&&◌, ◌==◌, List, [], ◌∷◌, map, codes, bytes_eq, Option, Some, None, if◌then◌else◌}
-use Rattle.std.specs.Borrow.{Bor}
+-- What the words of the command line ask for.
+use Rattle.std.specs.Prelude.{ℕ, ◌==◌, List, Option, Some, None, option_and_then, if◌then◌else◌}
+use Rattle.vg_words.specs.Command.{Run, Command, Runs, Loads, built, command}
+use Rattle.vg_dispatch.specs.declared.options.Options.{Options}
 
--- a run: how many workers and buffers, the slots of a handoff queue, how many packets are traced, and the files
-pub record Run : Type 0 where
-  pub workers : ℕ
-  pub buffers : ℕ
-  pub queue : ℕ
-  pub trace : ℕ
-  pub capture : List ℕ
-  pub script : List ℕ
-  pub tx : List ℕ
+-- the run of a command, where no packet is to be traced: traces are not built yet
+abbrev pub run_in : Command → Option Run
+run_in (Runs run) = if run.trace == 0 then Some run else None
+run_in (Loads seed packets workers) = None
 
--- a run over these files with all else as it is where no word says otherwise
-abbrev pub plain_run : (capture script tx : List ℕ) → Run
-plain_run capture script tx = record { workers = 1; buffers = 4096; queue = 64; trace = 0; capture = capture; script = script; tx = tx }
+-- the run that words ask for, where it is built
+abbrev pub run_asked : List (List ℕ) → Option Run
+run_asked words = option_and_then run_in (built (command words))
 
--- a file's name: not empty, and no option
-abbrev pub is_file_name : List ℕ → Bool
-is_file_name [] = false
-is_file_name (byte ∷ bytes) = not (byte == 45)
-
--- the run that words ask for: `run` and three names
-abbrev pub command : List (List ℕ) → Option Run
-command (word ∷ capture ∷ script ∷ tx ∷ []) =
-    if bytes_eq word (codes "run") && is_file_name capture && is_file_name script && is_file_name tx
-    then Some (plain_run capture script tx)
-    else None
-command words = None
-
--- the texts behind references
-abbrev pub texts : List (Bor (List ℕ)) → List (List ℕ)
-texts words = map (λ w. w.now) words
+-- the options of a run
+abbrev pub options_of : Run → Options
+options_of run = record { workers = run.workers; buffers = run.buffers; queue = run.queue; burst = run.burst; trace = run.trace }

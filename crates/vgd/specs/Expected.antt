@@ -5,7 +5,8 @@ use Rattle.vg_outside.specs.Files.{Files, file, Rose}
 use Rattle.vg_capture.specs.declared.captures.Capture.{Capture}
 use Rattle.vg_capture.specs.declared.errors.CaptureError.{CaptureError}
 use Rattle.vg_capture.specs.Savefile.{capture_of}
-use Rattle.vgd.specs.Command.{Run, command}
+use Rattle.vg_words.specs.Command.{Run}
+use Rattle.vgd.specs.Command.{run_asked}
 use Rattle.vg_script.specs.declared.errors.ScriptError.{ScriptError}
 use Rattle.vgd.specs.Plan.{graphs_of}
 use Rattle.vgd.specs.Run.{Call}
@@ -18,7 +19,7 @@ HasNoFault call name = ¬ Rose (call.faults name) (call.faults_after name)
 pub record IsLoadable (call : Call) (run : Run) (capture_bytes script_bytes : List ℕ) : Type 0 where
   pub files : Files
   pub told : call.files ≡ Some files
-  pub is_command : command call.words ≡ Some run
+  pub is_command : run_asked call.words ≡ Some run
   pub capture_file : file files run.capture ≡ Some capture_bytes
   pub script_file : file files run.script ≡ Some script_bytes
   pub no_capture_fault : HasNoFault call run.capture
@@ -35,6 +36,6 @@ IsExpectedOf call run capture_bytes script_bytes status =
 -- the status that the words bring, or the files: 2 where the words ask for no run
 abbrev pub IsExpected : Call → ℕ → Type 0
 IsExpected call status =
-    ((status ≡ 2) × (command call.words ≡ None))
+    ((status ≡ 2) × (run_asked call.words ≡ None))
     ⊎ ((run : Run) × (capture_bytes : List ℕ) × (script_bytes : List ℕ) × IsLoadable call run capture_bytes script_bytes
     × IsExpectedOf call run capture_bytes script_bytes status)

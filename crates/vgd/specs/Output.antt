@@ -17,7 +17,7 @@ use Rattle.vg_report.specs.declared.reports.Report.{Report}
 use Rattle.vg_report.specs.declared.reports.PacketLine.{PacketLine}
 use Rattle.vg_report.specs.declared.reports.PacketEnd.{PacketEnd}
 use Rattle.vg_report.specs.declared.reports.PacketEnd.TheVariants as ends
-use Rattle.vgd.specs.Command.{Run}
+use Rattle.vg_words.specs.Command.{Run}
 
 -- the bytes of a capture's packets
 abbrev pub frames_of : Capture → List (List ℕ)

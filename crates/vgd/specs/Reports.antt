@@ -1,34 +1,50 @@
--- The report of a log, part by part.
-use Rattle.std.specs.Prelude.{ℕ, nat_lt, List, [], map, flat_map, filter, slice_index, slice_index_or}
-use Rattle.std.specs.List.{enumerate_from, zip}
+-- The report of a run, part by part.
+use Rattle.std.specs.Prelude.{ℕ, nat_lt, List, [], map, flat_map, filter, slice_index}
+use Rattle.std.specs.List.{enumerate_from}
 use Rattle.vg_model.specs.declared.kinds.DropError.{DropError}
 use Rattle.vg_model.specs.declared.fates.Fate.{Fate}
-use Rattle.vg_model.specs.Errors.{all_errors}
+use Rattle.vg_model.specs.Errors.{all_errors, error_number}
 use Rattle.vg_model.specs.Graph.{Graph, Node}
-use Rattle.vg_model.specs.Journey.{Journey}
+use Rattle.vg_counters.specs.Tally.{drops_at}
 use Rattle.vg_report.specs.declared.reports.PacketLine.{PacketLine}
-use Rattle.vg_walk.specs.declared.logs.Log.{Log}
-use Rattle.vg_walk.specs.Walks.{IsLogOf}
+use Rattle.vg_report.specs.declared.reports.Report.{Report}
+use Rattle.vg_dispatch.specs.declared.options.Options.{Options}
+use Rattle.vg_engine.specs.declared.runs.Outcome.{Outcome}
 use Rattle.vgd.specs.Output.{named_end}
-
--- the log is that of some journeys through this graph
-abbrev pub IsLog : Graph → Log → Type 0
-IsLog g log = (js : List Journey) × IsLogOf g js log
 
 -- each by its name, with the count of its number
 abbrev pub counted : {X : Type 0} → (X → List ℕ) → List X → List ℕ → List (List ℕ × ℕ)
 counted name_of xs counts = map (λ numbered. (name_of numbered.1, slice_index counts numbered.0)) (enumerate_from 0 xs)
 
--- the errors of a node of this name that were made, by how often each was
-abbrev pub errors_made : List ℕ → List ℕ → List (List ℕ × DropError × ℕ)
-errors_made name counts =
-    filter (λ (entry : List ℕ × DropError × ℕ). nat_lt 0 entry.2)
-    (map {B = List ℕ × DropError × ℕ} (λ made. (name, made.0, made.1)) (zip all_errors counts))
+-- an error of a node of this name, with how often it was made
+abbrev pub made_entry : List ℕ → (DropError → ℕ) → DropError → List ℕ × DropError × ℕ
+made_entry name count error = (name, error, count error)
+
+-- of some errors of a node of this name those that were made
+abbrev pub made_of : List ℕ → (DropError → ℕ) → List DropError → List (List ℕ × DropError × ℕ)
+made_of name count errors = filter (λ (entry : List ℕ × DropError × ℕ). nat_lt 0 entry.2) (map (made_entry name count) errors)
+
+-- how often a node made an error, by these drops
+abbrev pub made_by : List (List ℕ) → ℕ → DropError → ℕ
+made_by drops node error = drops_at node (error_number error) drops
 
 -- the errors of all nodes that were made
 abbrev pub all_made : List Node → List (List ℕ) → List (List ℕ × DropError × ℕ)
-all_made nodes counts = flat_map (λ numbered. errors_made numbered.1.name (slice_index_or counts numbered.0 [])) (enumerate_from 0 nodes)
+all_made nodes drops = flat_map (λ numbered. made_of numbered.1.name (made_by drops numbered.0) all_errors) (enumerate_from 0 nodes)
 
 -- the line of a fate
 abbrev pub line_of_fate : Graph → Fate → PacketLine
 line_of_fate g fate = record { legs = fate.legs; congested = fate.congested; end = named_end g fate.end }
+
+-- the report of what came of a run over so many generations
+abbrev pub reported : Options → (generations : ℕ) → Outcome → Report
+reported options generations outcome = record {
+  workers = options.workers;
+  buffers = outcome.buffers;
+  generations = generations;
+  interfaces = counted (λ interface. interface.name) outcome.last.interfaces outcome.counts.sends;
+  nodes = counted (λ node. node.name) outcome.last.nodes outcome.counts.visits;
+  errors = all_made outcome.last.nodes outcome.counts.drops;
+  packets = map (line_of_fate outcome.last) outcome.fates;
+  traces = [];
+}

@@ -2,7 +2,6 @@
 use Rattle.std.specs.Prelude.{◌≡◌, ◌≢◌, ◌⊎◌, ℕ, ◌<◌, ◌+◌, ◌++◌, List, [], ◌∷◌, length, take, codes, decimal, Option, Some, None, option_map, IfSome, IsSome, Ok, Err}
 use Rattle.std.specs.Borrow.{Bor}
 use Rattle.vg_model.specs.Graph.{Graph}
-use Rattle.vg_model.specs.Generations.{generations}
 use Rattle.vg_model.specs.Visit.{ip4_visit}
 use Rattle.vg_outside.specs.Files.{Files, file, Rose, FirstBytes, FailedLoad, HoldsBytes, SameElsewhere}
 use Rattle.vg_capture.specs.declared.captures.Capture.{Capture}
@@ -12,12 +11,15 @@ use Rattle.vg_capture.specs.Savefile.{capture_of, largest_file}
 use Rattle.vg_script.specs.declared.errors.ScriptError.{ScriptError}
 use Rattle.vg_script.specs.declared.scripts.Script.{Script}
 use Rattle.vg_script.specs.Causes.{cause_word}
+use Rattle.vg_script.specs.Generations.{generations_of}
 use Rattle.vg_script.specs.Reading.{script_of, largest_script}
 use Rattle.vg_report.specs.declared.reports.Report.{Report}
 use Rattle.vg_report.specs.Text.{text}
 use Rattle.vgd.specs.declared.refusals.Refusal.{Refusal}
 use Rattle.vgd.specs.declared.refusals.Refusal.TheVariants as refusals
-use Rattle.vgd.specs.Command.{Run, command, texts}
+use Rattle.vg_plan.specs.Plan.{first_generation}
+use Rattle.vg_words.specs.Command.{Run, texts}
+use Rattle.vgd.specs.Command.{run_asked}
 use Rattle.vgd.specs.Plan.{graphs_of}
 use Rattle.vgd.specs.Output.{IsOutput}
 
@@ -31,31 +33,29 @@ pub record Call : Type 0 where
 
 -- the words ask for this run, and these are what its capture and its script held, where the folder tells its files
 pub record AreLoaded (call : Call) (run : Run) (capture_bytes script_bytes : List ℕ) : Type 0 where
-  pub is_command : command call.words ≡ Some run
+  pub is_command : run_asked call.words ≡ Some run
   pub capture_file : IfSome call.files (λ files. file files run.capture ≡ Some capture_bytes)
   pub script_file : IfSome call.files (λ files. file files run.script ≡ Some script_bytes)
 
--- the capture and the script were loaded and accepted: this capture, and the graphs of the script's edits before the first packet
--- (no script that is read has blocks, whose edits would come later)
-pub record AreAccepted (call : Call) (run : Run) (capture : Capture) (graphs : List Graph) : Type 0 where
+-- the capture and the script were loaded and accepted: this capture, and this script with the graphs of its generations
+pub record AreAccepted (call : Call) (run : Run) (capture : Capture) (script : Script) (graphs : List Graph) : Type 0 where
   pub capture_bytes : List ℕ
   pub script_bytes : List ℕ
-  pub script : Script
   pub loaded : AreLoaded call run capture_bytes script_bytes
   pub is_capture : capture_of capture_bytes ≡ Ok capture
   pub is_script : script_of script_bytes ≡ Ok script
-  pub no_blocks : script.blocks ≡ []
-  pub are_graphs : generations script.start [] ≡ Ok graphs
+  pub are_graphs : generations_of script ≡ Ok graphs
 
 -- a run is done: the folder holds the savefile of the run, all its other files are as before, and this is the text of its report
 pub record IsDone (call : Call) (line : List ℕ) : Type 0 where
   pub run : Run
   pub capture : Capture
+  pub script : Script
   pub graphs : List Graph
   pub report : Report
   pub tx : List ℕ
-  pub accepted : AreAccepted call run capture graphs
-  pub output : IsOutput ip4_visit graphs (λ i. 0) run capture report tx
+  pub accepted : AreAccepted call run capture script graphs
+  pub output : IsOutput ip4_visit graphs (first_generation script capture) run capture report tx
   pub printed : line ≡ text report
   pub saved : HoldsBytes call.files_after run.tx tx
   pub others : SameElsewhere call.files call.files_after run.tx
@@ -67,7 +67,7 @@ IsLoadedNext files capture script name = (name ≡ capture) ⊎ ((name ≡ scrip
 -- a file that the words name couldn't be loaded: the capture comes first
 pub record IsLoadFault (call : Call) (name : List ℕ) : Type 0 where
   pub run : Run
-  pub is_command : command call.words ≡ Some run
+  pub is_command : run_asked call.words ≡ Some run
   pub named : IsLoadedNext call.files run.capture run.script name
   pub fault : FailedLoad call.files name (call.faults name) (call.faults_after name)
 
@@ -94,15 +94,16 @@ pub record IsScriptFault (call : Call) (error : ScriptError) : Type 0 where
 pub record IsSaveFault (call : Call) (name : List ℕ) : Type 0 where
   pub run : Run
   pub capture : Capture
+  pub script : Script
   pub graphs : List Graph
-  pub accepted : AreAccepted call run capture graphs
+  pub accepted : AreAccepted call run capture script graphs
   pub named : name ≡ run.tx
   pub fault : Rose (call.faults name) (call.faults_after name)
   pub others : SameElsewhere call.files call.files_after name
 
 -- why a run is refused, and what it leaves of the folder
 abbrev pub IsRefused : Call → Refusal → Type 0
-IsRefused call refusals.Usage = (command call.words ≡ None) × (call.files_after ≡ call.files)
+IsRefused call refusals.Usage = (run_asked call.words ≡ None) × (call.files_after ≡ call.files)
 IsRefused call (refusals.Load name) = IsLoadFault call name.now × (call.files_after ≡ call.files)
 IsRefused call (refusals.Capture fault) = IsCaptureFault call fault × (call.files_after ≡ call.files)
 IsRefused call (refusals.Script error) = IsScriptFault call error × (call.files_after ≡ call.files)

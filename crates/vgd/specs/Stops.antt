@@ -3,7 +3,7 @@ use Rattle.std.specs.Prelude.{◌≡◌, ◌≢◌, ℕ, List, Ok, Err}
 use Rattle.vg_capture.specs.declared.captures.Capture.{Capture}
 use Rattle.vg_capture.specs.declared.errors.CaptureError.TheVariants as faults
 use Rattle.vg_capture.specs.Savefile.{capture_of}
-use Rattle.vgd.specs.Plan.{graphs_of, MakesGraph}
+use Rattle.vgd.specs.Plan.{graphs_of, MakesPlan}
 use Rattle.vgd.specs.declared.reading.Input.{Input}
 use Rattle.vgd.specs.declared.refusals.Refusal.{Refusal}
 use Rattle.vgd.specs.declared.refusals.Refusal.TheVariants as refusals
@@ -23,7 +23,7 @@ IsLoadOf P (refusals.Capture fault) = ⊥
 IsLoadOf P (refusals.Script error) = ⊥
 IsLoadOf P (refusals.Save name) = ⊥
 
--- these bytes are no savefile, or they are one and those bytes are no script that makes a graph
+-- these bytes are no savefile, or they are one and those bytes are no script whose edits can all be made
 abbrev pub IsRefusedFor : List ℕ → List ℕ → Refusal → Type 0
 IsRefusedFor capture_bytes script_bytes refusals.Usage = ⊥
 IsRefusedFor capture_bytes script_bytes (refusals.Load name) = ⊥
@@ -32,7 +32,7 @@ IsRefusedFor capture_bytes script_bytes (refusals.Script error) =
     ((c : Capture) × (capture_of capture_bytes ≡ Ok c)) × (graphs_of script_bytes ≡ Err error)
 IsRefusedFor capture_bytes script_bytes (refusals.Save name) = ⊥
 
--- both are accepted: this is the capture, and the script makes the router's graph
+-- both are accepted: these are the capture and the plan
 pub record AreRead (capture_bytes script_bytes : List ℕ) (input : Input) : Type 0 where
   pub is_capture : capture_of capture_bytes ≡ Ok input.capture
-  pub makes : MakesGraph script_bytes input.router
+  pub makes : MakesPlan script_bytes input.plan

@@ -5,11 +5,11 @@ ghost use Rattle.vgd.specs.Run.{AreFirstBytes, IsLoadedNext};
 ghost use Rattle.vgd.specs.Stops.{OnRefusal, IsLoadOf};
 
 use crate::refusals::{Refusal, Stop};
-use crate::words::Run;
 use vg_capture::LARGEST_FILE;
 use vg_model::Bytes;
 use vg_outside::{Folder, LoadError};
 use vg_script::LARGEST_SCRIPT;
+use vg_words::Run;
 
 /// What a run reads: of each file at most one byte more than its greatest length.
 #[derive(Drop)]

@@ -1,8 +1,8 @@
 //! `vgd`: the packets of a savefile through a graph of nodes.
 #![tactic(auto)]
 
+pub mod laws;
 pub mod loading;
-pub mod planning;
 pub mod printing;
 pub mod reading;
 pub mod refusals;
@@ -11,7 +11,6 @@ pub mod run;
 #[cfg(test)]
 mod tests;
 pub mod top;
-pub mod words;
 
 use std::io::ErrorKind;
 use std::process::ExitCode;

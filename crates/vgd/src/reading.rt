@@ -1,29 +1,29 @@
 //! What a run's files say.
 ghost use Rattle.std.specs.Prelude.{IfOk, IfErr};
-ghost use Rattle.vgd.specs.Plan.{graphs_of, MakesGraph, IsRefusalOf};
+ghost use Rattle.vgd.specs.Plan.{MakesPlan, IsRefusalFor};
 ghost use Rattle.vgd.specs.Stops.{OnRefusal, IsRefusedFor, AreRead};
 
 use crate::loading::Files;
-use crate::planning::{Router, plan};
 use crate::refusals::{Refusal, Stop};
 use std::alloc::Global;
 use vg_capture::{Capture, CaptureError, read_capture};
+use vg_plan::Plan;
 use vg_script::{ScriptCause, ScriptError, parse_script};
 
-/// What a run's files say: the packets, and the router that they go through.
+/// What a run's files say: the packets, and the plan of the graph that they go through.
 #[derive(Drop)]
 pub struct Input {
     pub capture: Capture,
-    pub router: Router,
+    pub plan: Plan,
 }
 
-/// The router that a script makes.
-fn read_script(alloc: Global, text: &[u8]) -> Result<Router, ScriptError>
-    ensures router { IfOk result (MakesGraph text.now) }
-    ensures refused { IfErr result (IsRefusalOf (graphs_of text.now)) }
+/// The plan that a script makes.
+fn read_script(alloc: Global, text: &[u8]) -> Result<Plan, ScriptError>
+    ensures plan { IfOk result (MakesPlan text.now) }
+    ensures refused { IfErr result (IsRefusalFor text.now) }
 {
     let script = parse_script(alloc, text)?;
-    plan(alloc, &script.start)
+    Plan::new(alloc, script)
 }
 
 /// Reads a run's files: the capture first, and then the script.
@@ -37,7 +37,7 @@ pub fn read_files<'a>(alloc: Global, files: &Files) -> Result<Input, Stop<'a>>
         Err(fault) => return Err(Stop::Refused(Refusal::Capture(fault))),
     };
     match read_script(alloc, files.script.as_slice()) {
-        Ok(router) => Ok(Input { capture, router }),
+        Ok(plan) => Ok(Input { capture, plan }),
         Err(
             ScriptError {
                 cause: ScriptCause::Memory,

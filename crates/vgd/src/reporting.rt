@@ -1,28 +1,18 @@
 //! The report of what became of packets.
-ghost use Rattle.std.specs.Prelude.{◌≡◌, [], ◌∷◌, ◌++◌, ℕ, List, length, map, IfOk, OnOk};
+ghost use Rattle.std.specs.Prelude.{◌≡◌, [], ◌++◌, ◌<◌, ◌≤◌, length, map, IfOk, OnOk};
 ghost use Rattle.std.specs.List.{AllByRecursion};
-ghost use Rattle.vg_model.specs.Journey.{Journey};
+ghost use Rattle.vg_model.specs.Errors.{all_errors};
 ghost use Rattle.vg_model.specs.Name.{IsName};
-ghost use Rattle.vg_walk.specs.Walks.{IsEndIn, IsLogOf};
-ghost use Rattle.vgd.specs.Command.{plain_run};
-ghost use Rattle.vgd.specs.Output.{named_end, report_of};
-ghost use Rattle.vgd.specs.Reports.{IsLog, counted, errors_made, all_made, line_of_fate};
+ghost use Rattle.vg_engine.specs.Ends.{IsEndIn};
+ghost use Rattle.vgd.specs.Output.{named_end};
+ghost use Rattle.vgd.specs.Reports.{counted, made_of, made_by, all_made, line_of_fate, reported};
 
 use std::alloc::{AllocError, Global};
+use vg_counters::Counters;
+use vg_engine::{Options, Outcome};
 use vg_graph::Graph;
 use vg_model::{DropError, End, Fate, Fates, Name};
 use vg_report::{ErrorCounts, NameCounts, PacketEnd, PacketLine, PacketLines, Report, TraceLines};
-use vg_walk::logs::ERRORS;
-use vg_walk::{Counts, Log};
-
-/// How many workers run.
-const WORKERS: u8 = 1;
-
-/// How many buffers a run starts with. There is no pool yet that could hold another number at the end.
-const BUFFERS: u32 = 4096;
-
-/// How many generations the graph has: scripts without blocks make one.
-const GENERATIONS: u32 = 1;
 
 /// The same name once more.
 fn copied(name: &Name) -> Name
@@ -34,58 +24,61 @@ fn copied(name: &Name) -> Name
 }
 
 /// The interfaces by number, each with the packets that were transmitted on it.
-fn interfaces(alloc: Global, graph: &Graph, sends: &[u64]) -> Result<NameCounts, AllocError>
-    requires { length sends.now ≡ length graph.now.interfaces }
-    ensures counts { IfOk result (λ counts. counts ≡ counted (λ interface. interface.name) graph.now.interfaces sends.now) }
-    ensures names { IfOk result (λ counts. AllByRecursion (λ entry. IsName entry.0) counts) }
+fn interfaces(alloc: Global, graph: &Graph, counts: &Counters) -> Result<NameCounts, AllocError>
+    requires { length graph.now.interfaces ≤ length counts.now.sends }
+    ensures counts { IfOk result (λ entries. entries ≡ counted (λ interface. interface.name) graph.now.interfaces counts.now.sends) }
+    ensures names { IfOk result (λ entries. AllByRecursion (λ entry. IsName entry.0) entries) }
 {
-    let mut counts = Vec::with_capacity(alloc, sends.len())?;
+    let mut entries = Vec::with_capacity(alloc, usize::from(graph.interfaces()))?;
     for n in 0..graph.interfaces() {
         let name = copied(&graph.interface_at(n).name);
-        counts.push((name, sends[usize::from(n)]))?;
+        entries.push((name, counts.sends(n)))?;
     }
-    Ok(NameCounts::from_vec(counts))
+    Ok(NameCounts::from_vec(entries))
 }
 
 /// The nodes by number, each with the visits of it.
-fn nodes(alloc: Global, graph: &Graph, visits: &[u64]) -> Result<NameCounts, AllocError>
-    requires { length visits.now ≡ length graph.now.nodes }
-    ensures counts { IfOk result (λ counts. counts ≡ counted (λ node. node.name) graph.now.nodes visits.now) }
-    ensures names { IfOk result (λ counts. AllByRecursion (λ entry. IsName entry.0) counts) }
+fn nodes(alloc: Global, graph: &Graph, counts: &Counters) -> Result<NameCounts, AllocError>
+    requires { length graph.now.nodes ≤ length counts.now.visits }
+    ensures counts { IfOk result (λ entries. entries ≡ counted (λ node. node.name) graph.now.nodes counts.now.visits) }
+    ensures names { IfOk result (λ entries. AllByRecursion (λ entry. IsName entry.0) entries) }
 {
-    let mut counts = Vec::with_capacity(alloc, visits.len())?;
+    let mut entries = Vec::with_capacity(alloc, usize::from(graph.nodes()))?;
     for n in 0..graph.nodes() {
-        counts.push((copied(graph.node_name(n)), visits[usize::from(n)]))?;
+        entries.push((copied(graph.node_name(n)), counts.visits(n)))?;
     }
-    Ok(NameCounts::from_vec(counts))
+    Ok(NameCounts::from_vec(entries))
 }
 
 /// The errors that a node made, in their order, behind those of the nodes before it.
 fn put_errors(
-    errors: &mut Vec<(Name, DropError, u64)>,
+    entries: &mut Vec<(Name, DropError, u64)>,
     name: &Name,
-    drops: &[u64; ERRORS],
+    node: u16,
+    counts: &Counters,
 ) -> Result<(), AllocError>
-    ensures { OnOk result (errors.new.items ≡ errors.old.items ++ errors_made name.now drops.now) }
+    requires { node < length counts.now.visits }
+    ensures { OnOk result (entries.new.items ≡ entries.old.items ++ made_of name.now (made_by counts.now.drops node) all_errors) }
 {
-    for (place, error) in DropError::ALL.iter().enumerate() {
-        if drops[place] > 0 {
-            errors.push((copied(name), *error, drops[place]))?;
+    for error in DropError::ALL.iter() {
+        let count = counts.drops(node, *error);
+        if count > 0 {
+            entries.push((copied(name), *error, count))?;
         }
     }
     Ok(())
 }
 
 /// The errors that nodes made, node by node.
-fn errors(alloc: Global, graph: &Graph, drops: &[[u64; ERRORS]]) -> Result<ErrorCounts, AllocError>
-    requires { length drops.now ≡ length graph.now.nodes }
-    ensures { IfOk result (λ errors. errors ≡ all_made graph.now.nodes drops.now) }
+fn errors(alloc: Global, graph: &Graph, counts: &Counters) -> Result<ErrorCounts, AllocError>
+    requires { length graph.now.nodes ≤ length counts.now.visits }
+    ensures { IfOk result (λ entries. entries ≡ all_made graph.now.nodes counts.now.drops) }
 {
-    let mut errors = Vec::new(alloc);
+    let mut entries = Vec::new(alloc);
     for n in 0..graph.nodes() {
-        put_errors(&mut errors, graph.node_name(n), &drops[usize::from(n)])?;
+        put_errors(&mut entries, graph.node_name(n), n, counts)?;
     }
-    Ok(ErrorCounts::from_vec(errors))
+    Ok(ErrorCounts::from_vec(entries))
 }
 
 /// An end by names.
@@ -134,32 +127,35 @@ fn lines(alloc: Global, graph: &Graph, fates: Fates) -> Result<PacketLines, Allo
     Ok(PacketLines::from_vec(lines))
 }
 
-/// The report of a run with one worker over one generation of the graph, from the log of the packets' journeys.
-pub fn report(alloc: Global, graph: &Graph, log: Log) -> Result<Report, AllocError>
-    requires { IsLog graph.now log }
-    ensures report { IfOk result (λ report. (js : List Journey) → IsLogOf graph.now js log
-        → (capture script tx : List ℕ) → report ≡ report_of (plain_run capture script tx) (graph.now ∷ []) js) }
+/// The report of what came of a run over so many generations.
+pub fn report(
+    alloc: Global,
+    options: &Options,
+    generations: u32,
+    outcome: Outcome,
+) -> Result<Report, AllocError>
+    requires nodes { length outcome.last.nodes ≤ length outcome.counts.visits }
+    requires interfaces { length outcome.last.interfaces ≤ length outcome.counts.sends }
+    requires ends { AllByRecursion (λ fate. IsEndIn outcome.last fate.end) outcome.fates }
+    ensures report { IfOk result (λ report. report ≡ reported options.now generations outcome) }
     ensures interfaces { IfOk result (λ report. AllByRecursion (λ entry. IsName entry.0) report.interfaces) }
     ensures nodes { IfOk result (λ report. AllByRecursion (λ entry. IsName entry.0) report.nodes) }
 {
-    let Log {
+    let Outcome {
         fates,
         sent: _,
         counts,
-    } = log;
-    let Counts {
-        visits,
-        drops,
-        sends,
-    } = counts;
+        buffers,
+        last,
+    } = outcome;
     Ok(Report {
-        workers: WORKERS,
-        buffers: BUFFERS,
-        generations: GENERATIONS,
-        interfaces: interfaces(alloc, graph, sends.as_slice())?,
-        nodes: nodes(alloc, graph, visits.as_slice())?,
-        errors: errors(alloc, graph, drops.as_slice())?,
-        packets: lines(alloc, graph, fates)?,
+        workers: options.workers,
+        buffers,
+        generations,
+        interfaces: interfaces(alloc, &last, &counts)?,
+        nodes: nodes(alloc, &last, &counts)?,
+        errors: errors(alloc, &last, &counts)?,
+        packets: lines(alloc, &last, fates)?,
         traces: TraceLines::from_vec(Vec::new(alloc)),
     })
 }

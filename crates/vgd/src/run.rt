@@ -1,5 +1,10 @@
 //! A run: from the words to the status and the text that are due.
-ghost use Rattle.std.specs.Prelude.{◌≡◌, IfOk, OnErr};
+ghost use Rattle.std.specs.Prelude.{◌≡◌, ◌<◌, ◌≤◌, ◌^◌, length, All, option_map, IfOk, OnErr};
+ghost use Rattle.vg_capture.specs.Savefile.{pairs};
+ghost use Rattle.vg_dispatch.specs.Progress.{AreInRange};
+ghost use Rattle.vg_words.specs.Shown.{run_shown};
+ghost use Rattle.vg_words.specs.Command.{texts};
+ghost use Rattle.vgd.specs.Command.{options_of as options_in, run_asked};
 ghost use Rattle.vgd.specs.Run.{called, IsDue, status_of, line_of};
 ghost use Rattle.vgd.specs.Dues.{IsDueFor, AreTextsOf};
 
@@ -7,12 +12,15 @@ use crate::loading::load_files;
 use crate::reading::{Input, read_files};
 use crate::refusals::{Refusal, Stop};
 use crate::reporting::report;
-use crate::words::read_words;
-use std::alloc::Global;
-use vg_capture::write_capture;
+use std::alloc::{AllocError, Global};
+use vg_capture::{Capture, Sent, write_capture};
+use vg_dispatch::SentList;
+use vg_engine::{Options, run_one};
 use vg_model::{Bytes, Memory};
+use vg_nodes::Ip4Kinds;
 use vg_outside::Folder;
 use vg_report::write_report;
+use vg_words::{Command, Run, read_words};
 
 /// What is due at the end: the exit status, and the text to print.
 #[derive(Drop)]
@@ -52,18 +60,86 @@ struct Texts {
     report: Bytes,
 }
 
-/// The savefile and the report of what the packets become.
-fn forward(alloc: Global, input: &Input) -> Result<Texts, Memory>
-    ensures { IfOk result (AreTextsOf input.now.router input.now.capture) }
+/// The longest record of a savefile in bytes, whose length has 32 bits. No packet that is transmitted is so long.
+const LONGEST_SENT: usize = u32::MAX as usize;
+
+/// The packets that were transmitted, as they are saved.
+fn sent_packets(alloc: Global, sent: &SentList) -> Result<Vec<Sent>, AllocError>
+    ensures pairs { IfOk result (λ packets. pairs packets.items ≡ sent.now) }
+    ensures short { IfOk result (λ packets. All (λ packet. length packet.bytes < 2 ^ 32) packets.items) }
 {
-    let Input { capture, router } = input;
-    let log = router.walk_all(alloc, capture.packets.as_slice())?;
-    let tx = write_capture(alloc, capture, log.sent.as_slice())?;
-    let Ok(report) = report(alloc, router.graph(), log) else {
+    let mut packets = Vec::with_capacity(alloc, sent.len())?;
+    for k in 0..sent.len() {
+        let (number, bytes) = sent.get(k);
+        if bytes.len() > LONGEST_SENT {
+            return Err(AllocError);
+        }
+        packets.push(Sent {
+            number,
+            bytes: Bytes::from_vec(Vec::from_slice(alloc, bytes)?),
+        })?;
+    }
+    Ok(packets)
+}
+
+/// The savefile and the report of what the packets become.
+fn forward(alloc: Global, input: &Input, options: &Options) -> Result<Texts, Memory>
+    requires worker { options.now.workers ≡ 1 }
+    requires options { AreInRange options.now }
+    requires trace { options.now.trace ≡ 0 }
+    ensures { IfOk result (AreTextsOf input.now.plan options.now input.now.capture) }
+{
+    let Input { capture, plan } = input;
+    know_few(capture);
+    let generations = plan.generations();
+    let outcome = run_one(
+        alloc,
+        &vg_engine::Input {
+            plan,
+            capture,
+            options,
+        },
+        &Ip4Kinds,
+    )?;
+    let Ok(sent) = sent_packets(alloc, &outcome.sent) else {
+        return Err(Memory);
+    };
+    let tx = write_capture(alloc, capture, sent.as_slice())?;
+    let Ok(report) = report(alloc, options, generations, outcome) else {
         return Err(Memory);
     };
     let report = write_report(alloc, &report)?;
     Ok(Texts { tx, report })
+}
+
+/// The options of a run.
+fn options_of(run: &Run<'_>) -> Options
+    ensures { result ≡ options_in (run_shown run.now) }
+{
+    Options {
+        workers: run.workers,
+        buffers: run.buffers,
+        queue: run.queue,
+        burst: run.burst,
+        trace: run.trace,
+    }
+}
+
+/// The run that the words ask for, as far as it is built; None where they ask for none. No packet is traced yet.
+fn asked<'a>(alloc: Global, words: &'a [&'a str]) -> Result<Option<Run<'a>>, Memory>
+    ensures { IfOk result (λ run. option_map run_shown run ≡ run_asked (texts words.now)) }
+{
+    match read_words(alloc, words)? {
+        Some(Command::Run(run)) if run.trace == 0 => Ok(Some(run)),
+        _ => Ok(None),
+    }
+}
+
+// A capture has at most 65,536 packets.
+fn know_few(capture: &Capture)
+    ensures { length capture.now.packets ≤ 65536 }
+{
+    let _packets = capture.packets.as_slice();
 }
 
 /// Runs what the words ask for, up to the printing.
@@ -72,7 +148,7 @@ pub fn run<F: Folder>(alloc: Global, words: &[&str], folder: &mut F) -> Result<D
         due.status due.text) }
     ensures memory { OnErr result (F.contents folder.new ≡ F.contents folder.old) }
 {
-    let Some(run) = read_words(words) else {
+    let Some(run) = asked(alloc, words)? else {
         return refuse(alloc, Refusal::Usage);
     };
     let files = match load_files(folder, &run) {
@@ -83,7 +159,7 @@ pub fn run<F: Folder>(alloc: Global, words: &[&str], folder: &mut F) -> Result<D
         Ok(input) => input,
         Err(stop) => return stopped(alloc, stop),
     };
-    let Texts { tx, report } = forward(alloc, &input)?;
+    let Texts { tx, report } = forward(alloc, &input, &options_of(&run))?;
     let not_saved = refuse(alloc, Refusal::Save(run.tx))?;
     match folder.save(run.tx, tx.as_slice()) {
         Ok(()) => Ok(Due {

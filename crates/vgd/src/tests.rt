@@ -67,6 +67,32 @@ fn savefile(alloc: Global, frames: &[Frame<'_>]) -> Result<Vec<u8>, AllocError> 
     Ok(file)
 }
 
+/// The savefile of a frame, once for each of these times in microseconds, all below a second.
+fn savefile_at(
+    alloc: Global,
+    nanos: bool,
+    frame: Frame<'_>,
+    times: &[u32],
+) -> Result<Vec<u8>, AllocError> {
+    let mut file = HEADER.to_vec(alloc)?;
+    if nanos {
+        file[0] = 0x4d;
+        file[1] = 0x3c;
+    }
+    let (text, len) = frame;
+    let bytes = bytes_of(alloc, text)?;
+    for time in times {
+        file.extend_from_slice(&[0; 4])?;
+        file.extend_from_slice(&time.to_le_bytes())?;
+        file.extend_from_slice(&len.to_le_bytes())?;
+        file.extend_from_slice(&len.to_le_bytes())?;
+        for place in 0..len as usize {
+            file.push(bytes.get(place).copied().unwrap_or(0))?;
+        }
+    }
+    Ok(file)
+}
+
 /// What a run did: its status, and what the sink and the folder hold behind it.
 #[derive(Drop)]
 struct Ran {
@@ -353,12 +379,107 @@ route 10.2.0.0/16 via l
     assert_done(&rt, script, &frames, &[sent], report)
 }
 
+/// The frame as it leaves for the one neighbor.
+const FORWARDED: Frame<'static> = (
+    "020000000009 02fe00000000 0800 4500001400000000 3f11add4 c0000201 0a010203",
+    34,
+);
+
+#[test]
+fn a_route_drops_from_its_time_on(rt: HostRuntime) -> Result<(), Fail> {
+    let alloc = rt.alloc();
+    let script = b"adjacency east interface pg0 dst 02:00:00:00:00:09\nroute 0.0.0.0/0 via east\n\
+        at 1000\nroute 0.0.0.0/0 drop\nend\n";
+    let capture = savefile_at(alloc, false, FRAME, &[0, 999, 1000, 500])?;
+    let ran = run_over(alloc, &RUN, capture.as_slice(), script)?;
+    let report = "vgd report 1\nworkers 1\nbuffers 4096\ngenerations 2\npackets 4\n\
+        interface 0 pg0 tx 2\nnode 0 pg-input 4\nnode 1 handoff-dequeue 0\nnode 2 ethernet-input 4\n\
+        node 3 ip4-input 4\nnode 4 ip4-lookup 4\nnode 5 ip4-rewrite 2\nnode 6 interface-output 2\n\
+        node 7 interface-tx 2\nnode 8 error-drop 2\nerror ip4-lookup route-drop 2\n\
+        packet 0 0:0 tx pg0\npacket 1 0:0 tx pg0\npacket 2 0:1 drop ip4-lookup route-drop\n\
+        packet 3 0:1 drop ip4-lookup route-drop\nend\n";
+    assert_eq!(rt; ran.printed.as_slice(), report.as_bytes());
+    assert_eq!(rt; ran.status, 0);
+    assert_eq!(rt;
+        ran.tx.ok_or("no savefile")?,
+        savefile_at(alloc, false, FORWARDED, &[0, 999])?
+    );
+    Ok(())
+}
+
+#[test]
+fn a_route_flaps(rt: HostRuntime) -> Result<(), Fail> {
+    let alloc = rt.alloc();
+    let script = b"adjacency east interface pg0 dst 02:00:00:00:00:09\nroute 10.0.0.0/8 via east\n\
+        process p every 100 count 3\nroute 10.0.0.0/8 drop\nthen\nroute 10.0.0.0/8 via east\nend\n\
+        at 100\nroute 10.0.0.0/8 local\nend\n";
+    let capture = savefile_at(alloc, false, FRAME, &[0, 100, 200, 300])?;
+    let words = [
+        "run",
+        "--workers=1",
+        "--burst",
+        "1",
+        "c",
+        "s",
+        "--buffers",
+        "768",
+        "t",
+    ];
+    let ran = run_over(alloc, &words, capture.as_slice(), script)?;
+    let report = "vgd report 1\nworkers 1\nbuffers 768\ngenerations 5\npackets 4\n\
+        interface 0 pg0 tx 2\nnode 0 pg-input 4\nnode 1 handoff-dequeue 0\nnode 2 ethernet-input 4\n\
+        node 3 ip4-input 4\nnode 4 ip4-lookup 4\nnode 5 ip4-rewrite 2\nnode 6 interface-output 2\n\
+        node 7 interface-tx 2\nnode 8 error-drop 2\nerror ip4-lookup route-drop 1\n\
+        error ip4-lookup local 1\npacket 0 0:0 tx pg0\npacket 1 0:2 drop ip4-lookup local\n\
+        packet 2 0:3 tx pg0\npacket 3 0:4 drop ip4-lookup route-drop\nend\n";
+    assert_eq!(rt; ran.printed.as_slice(), report.as_bytes());
+    assert_eq!(rt; ran.status, 0);
+    assert_eq!(rt;
+        ran.tx.ok_or("no savefile")?,
+        savefile_at(alloc, false, FORWARDED, &[0, 200])?
+    );
+    Ok(())
+}
+
+#[test]
+fn a_cycle_is_found_in_its_generation(rt: HostRuntime) -> Result<(), Fail> {
+    let script =
+        b"node a kind pass\narc a out ethernet-input\nat 10\nend\nat 20\narc pg-input out a\nend\n\
+        at 30\narc ethernet-input ip4 a\nend\n";
+    assert_refused(&rt, &RUN, &HEADER, script, 5, "script 9 cycle\n")
+}
+
+#[test]
+fn nanoseconds_stay_nanoseconds(rt: HostRuntime) -> Result<(), Fail> {
+    let alloc = rt.alloc();
+    // big-endian, nanoseconds: two datagrams of 60 bytes on the wire, of which the first says more bytes than were captured
+    let capture = bytes_of(
+        alloc,
+        "a1b23c4d 0002 0004 00000000 00000000 00040000 00000001 00000001 000001f4 00000022 0000003c \
+            02fe00000000 020000000001 0800 4500002e00000000 4011acba c0000201 0a010203 \
+            00000001 3b9ac9ff 00000022 0000003c \
+            02fe00000000 020000000001 0800 4500001400000000 4011acd4 c0000201 0a010203",
+    )?;
+    let ran = run_over(alloc, &RUN, capture.as_slice(), EAST)?;
+    assert_eq!(rt; ran.status, 0);
+    let tx = bytes_of(
+        alloc,
+        "4d3cb2a1 0200 0400 00000000 00000000 00000400 01000000 01000000 ffc99a3b 22000000 3c000000 \
+            020000000009 02fe00000000 0800 4500001400000000 3f11add4 c0000201 0a010203",
+    )?;
+    assert_eq!(rt; ran.tx.ok_or("no savefile")?, tx);
+    Ok(())
+}
+
 #[test]
 fn faulty_words_are_usage(rt: HostRuntime) -> Result<(), Fail> {
-    let faulty: [&[&str]; 7] = [
+    let faulty: [&[&str]; 10] = [
         &[],
         &["run", "c", "s"],
         &["run", "c", "s", "t", "u"],
+        &["run", "--workers", "9", "c", "s", "t"],
+        &["run", "--queue", "1", "--queue", "1", "c", "s", "t"],
+        &["run", "--buffers", "511", "c", "s", "t"],
         &["--help"],
         &["load", "c", "s", "t"],
         &["run", "", "s", "t"],
@@ -414,7 +535,12 @@ fn the_first_fault_is_told(rt: HostRuntime) -> Result<(), Fail> {
 
 #[test]
 fn faulty_scripts_are_refused(rt: HostRuntime) -> Result<(), Fail> {
-    let faulty: [(&[u8], &str); 17] = [
+    let faulty: [(&[u8], &str); 19] = [
+        (b"at 5", "script 1 block\n"),
+        (
+            b"process p every 1 count 999\nend\nat 1",
+            "script 3 too-many-generations\n",
+        ),
         (b"route 10.0.0.1/8 drop", "script 1 prefix\n"),
         (b"route 10.0.0.0/33 drop", "script 1 prefix\n"),
         (b"arc hub", "script 1 word\n"),

@@ -5,8 +5,9 @@ use Rattle.vgd.proofs.reporting.interfaces.Goals as goal
 
 pub loop-n-preserved : goal.loop-n-preserved
 loop-n-preserved c =
-    let more = counted_more (λ (interface : Interface). interface.name) c.args.graph.now.interfaces c.args.sends.now c.loop-n.n c.interface_at.result.now c.interface_at.ensures in
+    let more = counted_more (λ (interface : Interface). interface.name) c.args.graph.now.interfaces c.args.counts.now.sends c.loop-n.n c.interface_at.result.now c.interface_at.ensures in
     let same = c.copied-name.ensures.same in
+    let count = c.sends.ensures in
     let number = c.from.ensures in
     let pushed = c.in_ok-push.ensures.items in
     record {

@@ -6,6 +6,6 @@ use Rattle.vgd.proofs.reporting.interfaces.Given as goal
 
 abbrev pub invariant-loop-n : goal.invariant-loop-n
 invariant-loop-n l = record {
-  counts : l.counts.items ≡ counted (λ interface. interface.name) (take l.n l.graph.interfaces) l.sends;
-  names : AllByRecursion (λ entry. IsName entry.0) l.counts.items;
+  counts : l.entries.items ≡ counted (λ interface. interface.name) (take l.n l.graph.interfaces) l.counts.sends;
+  names : AllByRecursion (λ entry. IsName entry.0) l.entries.items;
 }

@@ -6,6 +6,6 @@ use Rattle.vgd.proofs.reporting.nodes.Given as goal
 
 abbrev pub invariant-loop-n : goal.invariant-loop-n
 invariant-loop-n l = record {
-  counts : l.counts.items ≡ counted (λ node. node.name) (take l.n l.graph.nodes) l.visits;
-  names : AllByRecursion (λ entry. IsName entry.0) l.counts.items;
+  counts : l.entries.items ≡ counted (λ node. node.name) (take l.n l.graph.nodes) l.counts.visits;
+  names : AllByRecursion (λ entry. IsName entry.0) l.entries.items;
 }

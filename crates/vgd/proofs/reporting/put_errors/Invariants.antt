@@ -1,6 +1,7 @@
-use Rattle.std.proofs.Common.{◌≡◌, ◌++◌}
-use Rattle.vgd.proofs.CountLemmas.{first_errors}
+use Rattle.std.proofs.Common.{◌≡◌, ◌++◌, take}
+use Rattle.vg_model.specs.Errors.{all_errors}
+use Rattle.vgd.specs.Reports.{made_of, made_by}
 use Rattle.vgd.proofs.reporting.put_errors.Given as goal
 
-abbrev pub invariant-loop-place : goal.invariant-loop-place
-invariant-loop-place l = l.errors.items ≡ l.initial.errors.items ++ first_errors l.name l.drops l.place
+abbrev pub invariant-loop-error : goal.invariant-loop-error
+invariant-loop-error l = l.entries.items ≡ l.initial.entries.items ++ made_of l.name (made_by l.counts.drops l.node) (take l.error-index all_errors)

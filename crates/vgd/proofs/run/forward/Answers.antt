@@ -1,34 +1,77 @@
-use Rattle.std.proofs.Common.{◌≡◌, ℕ, List, [], ◌∷◌, ap, subst, ◌∙◌, arith}
-use Rattle.vg_capture.specs.declared.captures.Captured.{Captured}
+use Rattle.std.proofs.Common.{◌≡◌, ◌≤◌, ℕ, List, [], ap, subst, sym, ◌∙◌, length, refl, arith}
+use Rattle.std.specs.Prelude.{None, All}
+use Rattle.std.proofs.lemmas.List.{length-map}
+use Rattle.vg_model.specs.Visit.{ip4_visit}
 use Rattle.vg_capture.specs.declared.captures.Sent.{Sent}
-use Rattle.vg_capture.specs.Savefile.{savefile, pairs}
-use Rattle.vg_walk.specs.Walks.{AreWalked}
-use Rattle.vgd.specs.Command.{plain_run}
-use Rattle.vgd.specs.Output.{report_of}
-use Rattle.vgd.proofs.CongestionLemmas.{own_journeys}
-use Rattle.vgd.proofs.RunLemmas.{reported_whole, output_is}
+use Rattle.vg_capture.specs.Savefile.{savefile, pairs, AreWithin}
+use Rattle.vg_plan.specs.Plan.{first_generation}
+use Rattle.vg_dispatch.specs.declared.options.Options.{Options}
+use Rattle.vg_engine.specs.Outcomes.{IsOutcome}
+use Rattle.vg_words.specs.Command.{Run}
+use Rattle.vgd.specs.Output.{frames_of}
+use Rattle.vgd.specs.Reports.{reported}
+use Rattle.vgd.proofs.SentLemmas.{are_within, fates_end}
+use Rattle.vgd.proofs.OutputLemmas.{own, reported_is, output_is, reportable}
 use Rattle.vgd.proofs.LawfulLemmas.{report_lawful}
 use Rattle.vgd.proofs.run.forward.Goals as goal
 
+-- a run with these options, whatever its files are called
+abbrev some_run : Options → Run
+some_run options = record {
+  workers = options.workers;
+  buffers = options.buffers;
+  queue = options.queue;
+  burst = options.burst;
+  trace = options.trace;
+  turns = None;
+  capture = [];
+  script = [];
+  tx = [];
+}
+
+pub write_capture-requires : goal.write_capture-requires
+write_capture-requires c =
+    let plan = c.args.input.now.plan in
+    let capture = c.args.input.now.capture in
+    let is : IsOutcome ip4_visit plan.graphs (first_generation plan.script capture) capture c.args.options.now c.in_ok-outcome.outcome = c.in_ok-outcome.ensures in
+    let within : AreWithin (length (frames_of capture)) c.in-Ok.sent.items =
+    are_within plan.graphs (length (frames_of capture)) c.in-Ok.sent.items is.js (c.in-Ok.ensures.pairs ∙ is.are_sent) (own plan c.args.options.now capture c.in_ok-outcome.outcome is).0 c.in-Ok.ensures.short in
+    let by_count : AreWithin (length capture.packets) c.in-Ok.sent.items = subst (λ n. AreWithin n c.in-Ok.sent.items) (length-map capture.packets (λ p. p.bytes)) within in
+    subst (AreWithin (length capture.packets)) (sym c.as_slice.ensures.value) by_count
+
+pub report-requires-clause-ends : goal.report-requires-clause-ends
+report-requires-clause-ends c =
+    let plan = c.args.input.now.plan in
+    let capture = c.args.input.now.capture in
+    let is : IsOutcome ip4_visit plan.graphs (first_generation plan.script capture) capture c.args.options.now c.in_ok-outcome.outcome = c.in_ok-outcome.ensures in
+    fates_end c.in_ok-outcome.outcome.last is.last is.last.routes is.js c.in_ok-outcome.outcome.fates is.last_is is.are_fates is.ends
+
 pub write_report-requires : goal.write_report-requires
 write_report-requires c =
-    let walked : AreWalked c.args.input.now.router c.as_slice.result.now c.in_ok-log.log = c.in_ok-log.ensures.walked in
-    let own = own_journeys c.args.input.now.router 0 c.as_slice.result.now walked.js walked.are_journeys in
-    let reported : (capture script tx : List ℕ) → c.in-Ok.report ≡ report_of (plain_run capture script tx) (c.args.input.now.router ∷ []) walked.js =
-    reported_whole c.graph.result.now c.args.input.now.router _ c.in_ok-log.log walked.js c.in-Ok.report c.graph.ensures.graph walked.is_log c.in-Ok.ensures.report in
-    report_lawful c.args.input.now.router c.in_ok-log.log walked.js [] [] [] c.in-Ok.report (reported [] [] []) c.graph.ensures.router walked.is_log
-    (omega (arith, own.1, c.as_slice.ensures.few)) own.0 c.in-Ok.ensures.interfaces c.in-Ok.ensures.nodes
+    let plan = c.args.input.now.plan in
+    let capture = c.args.input.now.capture in
+    let options = c.args.options.now in
+    let is : IsOutcome ip4_visit plan.graphs (first_generation plan.script capture) capture options c.in_ok-outcome.outcome = c.in_ok-outcome.ensures in
+    let made : c.in-Ok-report.report ≡ reported options (length plan.graphs) c.in_ok-outcome.outcome =
+    c.in-Ok-report.ensures.report ∙ ap (λ n. reported options n c.in_ok-outcome.outcome) c.generations-generations.ensures.graphs in
+    report_lawful (some_run options) plan.graphs (length (frames_of capture)) is.js c.in-Ok-report.report
+    (made ∙ reported_is plan options capture c.in_ok-outcome.outcome is (some_run options) refl c.requires.trace)
+    (reportable plan options capture c.in_ok-outcome.outcome is (some_run options) refl c.requires.trace c.requires.options c.generations-generations.ensures.plan
+    (sym c.generations-generations.ensures.graphs ∙ c.generations-generations.ensures.events) c.know_few.ensures)
+    c.in-Ok-report.ensures.interfaces c.in-Ok-report.ensures.nodes
 
 pub returns : goal.returns
 returns c =
-    let walked : AreWalked c.args.input.now.router c.args.input.now.capture.packets c.in_ok-log.log =
-    subst (λ (ps : List Captured). AreWalked c.args.input.now.router ps c.in_ok-log.log) c.as_slice.ensures.packets c.in_ok-log.ensures.walked in
-    let reported : (capture script tx : List ℕ) → c.in-Ok.report ≡ report_of (plain_run capture script tx) (c.args.input.now.router ∷ []) walked.js =
-    reported_whole c.graph.result.now c.args.input.now.router _ c.in_ok-log.log walked.js c.in-Ok.report c.graph.ensures.graph walked.is_log c.in-Ok.ensures.report in
-    let saved : c.in_ok-tx.tx ≡ savefile c.args.input.now.capture (pairs c.in_ok-log.log.sent.items) =
-    c.in_ok-tx.ensures ∙ ap (λ (s : List Sent). savefile c.args.input.now.capture (pairs s)) c.as_slice-2.ensures.value in
+    let plan = c.args.input.now.plan in
+    let capture = c.args.input.now.capture in
+    let options = c.args.options.now in
+    let is : IsOutcome ip4_visit plan.graphs (first_generation plan.script capture) capture options c.in_ok-outcome.outcome = c.in_ok-outcome.ensures in
+    let made : c.in-Ok-report.report ≡ reported options (length plan.graphs) c.in_ok-outcome.outcome =
+    c.in-Ok-report.ensures.report ∙ ap (λ n. reported options n c.in_ok-outcome.outcome) c.generations-generations.ensures.graphs in
+    let saved : c.in_ok-tx.tx ≡ savefile capture c.in_ok-outcome.outcome.sent =
+    c.in_ok-tx.ensures ∙ (ap (λ (s : List Sent). savefile capture (pairs s)) c.as_slice.ensures.value ∙ ap (savefile capture) c.in-Ok.ensures.pairs) in
     record {
-      report = c.in-Ok.report;
+      report = c.in-Ok-report.report;
       is_text = c.in_ok-report.ensures;
-      output = output_is c.args.input.now.router c.args.input.now.capture c.in_ok-log.log walked.js c.in-Ok.report c.in_ok-tx.tx walked.are_journeys walked.is_log reported saved;
+      output = λ run same. output_is plan options capture c.in_ok-outcome.outcome is c.in-Ok-report.report c.in_ok-tx.tx run same c.requires.worker c.requires.trace made saved;
     }
