@@ -1,20 +1,18 @@
 -- The runs of a lawful script's blocks.
-use Rattle.std.proofs.Common.{◌≡◌, ℕ, suc, zero, ◌+◌, ◌*◌, ◌<◌, ◌≤◌, List, [], ◌∷◌, ◌++◌, length, get_or, map, inl, inr, refl, sym, ap, ◌∙◌, arith}
+use Rattle.std.proofs.Common.{◌≡◌, ℕ, suc, zero, ◌*◌, ◌<◌, List, [], ◌∷◌, ◌++◌, length, get_or, map, refl, ap, arith}
 use Rattle.std.proofs.Math.Nat.{mul-lt-mul_of_pos_right}
-use Rattle.std.proofs.lemmas.Bool.{cases_lt}
 use Rattle.std.proofs.lemmas.List.{length-map}
 use Rattle.std.proofs.lemmas.List.Elements.{recursion_from_All}
 use Rattle.std.proofs.lemmas.List.Kept.{AllPairs-from_increasing}
 use Rattle.std.specs.List.{AllByRecursion as Rec, flat_map}
-use Rattle.std.specs.List.Sorted.{IsStrictlyIncreasing}
 use Rattle.vg_script.specs.declared.scripts.Block.{Block}
 use Rattle.vg_script.specs.declared.scripts.Block.TheVariants.{At, Process}
 use Rattle.vg_script.specs.declared.scripts.Script.{Script}
-use Rattle.vg_script.specs.Events.{Event, runs, events_of, in_order}
+use Rattle.vg_script.specs.Events.{Event, events_of}
 use Rattle.vg_script.specs.Lawful.{IsLawful, IsLawfulBlock, block_line}
-use Rattle.vg_process.specs.Rest.{rest_at, left, IsRising, AreLinesAbove, IsOrderly}
+use Rattle.vg_process.specs.Rest.{rest_at, IsRising, IsOrderly}
 use Rattle.vg_process.proofs.OrderLemmas.{joined}
-use Rattle.vg_process.proofs.RunLemmas.{run_at, get_or-runs, length-runs}
+use Rattle.vg_process.proofs.RunLemmas.{get_or-runs, length-runs}
 
 -- the runs of a block, one after the other
 events_rising : (block : Block) → IsLawfulBlock block → IsRising (events_of block)

@@ -1,15 +1,14 @@
 -- The queue of places that wait.
-use Rattle.std.proofs.Common.{◌≡◌, ◌≢◌, ℕ, zero, suc, ◌+◌, ◌<◌, ◌≤◌, ◌⊎◌, List, [], ◌∷◌, length, get_or, Option, Some, None, false, inl, inr, subst, refl, sym, ap, ◌∙◌, arith, All}
+use Rattle.std.proofs.Common.{◌≡◌, ℕ, ◌+◌, ◌<◌, ◌≤◌, ◌⊎◌, List, [], ◌∷◌, length, get_or, Option, Some, None, false, inl, inr, refl, sym, ap, ◌∙◌, arith, All}
 use Rattle.std.proofs.lemmas.Bool.{cases_eq, cases_lt, eq-eqb, ne_eqb}
 use Rattle.std.proofs.lemmas.List.Elements.{recursion_from_All, All-from_recursion, All-weaker, All-cons, All-tail, All-contains}
 use Rattle.std.proofs.lemmas.List.Sorted.{All-permutation, sum_by_pushed, sum_by_popped}
 use Rattle.std.specs.BinaryHeap.{heap_items, heap_len, heap_capacity, IsHeap, IsUpperBound}
-use Rattle.std.specs.List.{AllByRecursion as Rec}
 use Rattle.std.specs.List.Sorted.{IsPermutation}
 use Rattle.std.specs.Option.{IsSomeAnd}
 use Rattle.std.specs.Ordering.{is_lt}
 use Rattle.std.specs.declared.cmp.Reverse.{Reverse}
-use Rattle.futures.specs.LinkedLists.Wheel.{Wheel, deadline_of, key_limit, EachDeadline, Sets}
+use Rattle.futures.specs.LinkedLists.Wheel.{Wheel, deadline_of, key_limit, Sets}
 use Rattle.vg_process.specs.declared.queue.Queue.{Queue}
 use Rattle.vg_process.specs.declared.queue.Turn.{Turn}
 use Rattle.vg_process.specs.Queued.{IsQueue, IsAhead, IsReady, listed, later_first, number}

@@ -1,9 +1,8 @@
 -- What one block still has to do.
-use Rattle.std.proofs.Common.{◌≡◌, ◌+◌, ◌-◌, ◌<◌, ◌≤◌, [], ◌∷◌, length, drop, None, Some, sym, ap, ◌∙◌, arith, length-drop}
+use Rattle.std.proofs.Common.{◌≡◌, ◌+◌, ◌<◌, ◌≤◌, [], ◌∷◌, length, drop, sym, ap, ◌∙◌, arith}
 use Rattle.std.proofs.lemmas.List.{drop-drop, drop_all}
 use Rattle.vg_script.specs.Events.{runs}
 use Rattle.vg_process.specs.declared.states.State.TheInside.{Inside}
-use Rattle.vg_process.specs.Left.{first_time}
 use Rattle.vg_process.specs.Rest.{rest}
 use Rattle.vg_process.proofs.RunLemmas.{run_at, drop-runs, length-rest, length-runs}
 

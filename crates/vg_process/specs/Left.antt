@@ -1,7 +1,6 @@
 -- What a request takes of the events that are left (this project's profile).
 use Rattle.std.specs.Prelude.{◌≡◌, ℕ, ◌<◌, ◌≤◌, List, [], ◌∷◌, Option, Some, None, All}
-use Rattle.std.specs.List.{flat_map}
-use Rattle.vg_script.specs.Events.{Event, in_order}
+use Rattle.vg_script.specs.Events.{Event}
 use Rattle.vg_process.specs.declared.schedule.Due.{Due}
 
 -- the time of the first event

@@ -1,5 +1,5 @@
 -- What the blocks of a script still have to do (this project's profile).
-use Rattle.std.specs.Prelude.{◌≡◌, ℕ, ◌*◌, ◌^◌, ◌<◌, ◌≤◌, List, [], length, drop, slice_index_or, vec_len}
+use Rattle.std.specs.Prelude.{ℕ, ◌*◌, ◌^◌, ◌<◌, ◌≤◌, List, [], length, drop, slice_index_or, vec_len}
 use Rattle.std.specs.List.{flat_map}
 use Rattle.vg_script.specs.Events.{Event, runs, in_order}
 use Rattle.vg_process.specs.declared.states.State.TheInside.{Inside}

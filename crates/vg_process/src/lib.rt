@@ -5,6 +5,8 @@ mod copies;
 mod queue;
 mod schedule;
 mod states;
+#[cfg(test)]
+mod tests;
 mod timers;
 
 pub use schedule::{Due, Processes};

@@ -1,4 +1,4 @@
-use Rattle.std.proofs.Common.{length, ◌<◌, ◌≤◌, max}
+use Rattle.std.proofs.Common.{length, ◌≤◌, max}
 use Rattle.futures.specs.LinkedLists.Wheel.{armed_count}
 use Rattle.vg_process.specs.Queued.{IsQueue}
 use Rattle.vg_process.specs.Waiting.{time_at}

@@ -1,4 +1,4 @@
-use Rattle.std.proofs.Common.{sym, ap, ◌∙◌}
+use Rattle.std.proofs.Common.{sym, ap}
 use Rattle.vg_process.specs.Left.{first_time}
 use Rattle.vg_process.proofs.FirstLemmas.{left-none, first_time-left}
 use Rattle.vg_process.proofs.schedule.Processes.next_time.Goals as goal

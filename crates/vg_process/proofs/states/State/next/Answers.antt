@@ -4,7 +4,6 @@ use Rattle.std.proofs.lemmas.Nat.{mod_below}
 use Rattle.std.proofs.lemmas.Option.{unwrap_or-slice_get}
 use Rattle.vg_script.specs.Events.{group_of}
 use Rattle.vg_process.specs.Left.{first_time}
-use Rattle.vg_process.specs.Rest.{rest}
 use Rattle.vg_process.proofs.RunLemmas.{run_at}
 use Rattle.vg_process.proofs.RestLemmas.{rest-next, is_within}
 use Rattle.vg_process.proofs.states.State.next.Goals as goal

@@ -1,4 +1,4 @@
-use Rattle.std.proofs.Common.{◌<◌, ◌+◌, ◌*◌, ◌≤◌, sym, ap, ◌∙◌, arith, rules}
+use Rattle.std.proofs.Common.{◌+◌, ◌*◌, ◌≤◌, ap, arith}
 use Rattle.std.proofs.Math.Nat.{mul-le-mul_right}
 use Rattle.vg_process.specs.Left.{first_time}
 use Rattle.vg_process.proofs.RestLemmas.{rest-next, is_within}

@@ -1,4 +1,4 @@
-use Rattle.std.proofs.Common.{◌≡◌, ◌+◌, length, sym, ap, ◌∙◌, arith, None}
+use Rattle.std.proofs.Common.{◌≡◌, ◌+◌, length, sym, ap, ◌∙◌, arith}
 use Rattle.vg_process.specs.Waiting.{time_at, with_time}
 use Rattle.vg_process.proofs.QueuedLemmas.{same_times}
 use Rattle.vg_process.proofs.TimedLemmas.{upto, room_for, upto-self, upto-more, upto-all}

@@ -1,7 +1,6 @@
-use Rattle.std.proofs.Common.{◌≡◌, ◌<◌, length, None, Some, set, refl, sym, ap, ◌∙◌, arith, length-set, set-set, get_or-set_same}
-use Rattle.vg_process.specs.declared.timers.Timers.TheInside.{Inside}
-use Rattle.vg_process.specs.Waiting.{time_at, with_time, IsFirst}
-use Rattle.vg_process.proofs.TimedLemmas.{room_for, set_times, time_at-set, waits_within, one_first, no_first}
+use Rattle.std.proofs.Common.{◌≡◌, ◌<◌, length, None, Some, set, sym, ap, ◌∙◌, arith, length-set, set-set, get_or-set_same}
+use Rattle.vg_process.specs.Waiting.{time_at}
+use Rattle.vg_process.proofs.TimedLemmas.{room_for, set_times, waits_within, one_first, no_first}
 use Rattle.vg_process.proofs.timers.Timers.reset_first.Goals as goal
 
 pub invariant_of-self : goal.invariant_of-self
