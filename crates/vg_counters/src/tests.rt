@@ -62,6 +62,7 @@ fn nodes_of_two_workers_stand_leg_by_leg(rt: HostRuntime) -> Result<(), Fail> {
 #[test]
 fn the_69th_node_of_a_leg_is_not_noted(rt: HostRuntime) -> Result<(), Fail> {
     let mut trace = Trace::new(rt.alloc(), 1)?;
+    assert_eq!(rt; trace.packets(), 1);
     for node in 0..69 {
         trace.note(0, 4, node);
     }

@@ -71,6 +71,13 @@ impl Trace {
         Ok(Trace { packets: rooms })
     }
 
+    /// For how many packets it is.
+    pub fn packets(&self) -> usize
+        ensures { result ≡ length self.now }
+    {
+        self.packets.len()
+    }
+
     /// Notes that a packet visited a node in one of its legs, which are counted from 1.
     ///
     /// A packet that is not among those of the trace is not noted, nor is a node behind [`MOST_NOTED`] others of its leg.

@@ -1,5 +1,5 @@
 -- Counts with one end more.
-use Rattle.std.proofs.Common.{◌≡◌, ◌≢◌, ℕ, suc, ◌+◌, ◌*◌, ◌<◌, ◌≤◌, ◌^◌, Bool, true, false, cond, ◌&&◌, List, [], ◌∷◌, length, get_or, set, refl, sym, ap, subst, ◌∙◌, inl, inr, arith, zero-add}
+use Rattle.std.proofs.Common.{◌≡◌, ℕ, ◌+◌, ◌*◌, ◌<◌, ◌≤◌, Bool, true, false, cond, ◌&&◌, List, [], ◌∷◌, length, get_or, refl, sym, ap, ◌∙◌, inl, inr, arith, zero-add}
 use Rattle.std.specs.Prelude.{◌==◌, slice_index, if◌then◌else◌, All}
 use Rattle.std.specs.List.{sum_by}
 use Rattle.std.proofs.Math.ListN.{length-set}
@@ -17,7 +17,7 @@ use Rattle.vg_model.specs.Count.{is_drop, is_sent_on}
 use Rattle.vg_counters.specs.Tally.{Tally, IsWhole, count_of_errors, more_at, drops_at, one_drop_more}
 use Rattle.vg_dispatch.specs.Ended.{drop_visits}
 use Rattle.vg_dispatch.specs.Underway.{counts_from}
-use Rattle.vg_dispatch.specs.Works.{counted_end, CanCount, outcome_of, visits_in_all}
+use Rattle.vg_dispatch.specs.Works.{counted_end, CanCount, outcome_of}
 use Rattle.vg_dispatch.proofs.SumLemmas.{counts_from_more}
 
 -- an error has a place in the order

@@ -1,20 +1,20 @@
 -- Packets are drawn one by one.
-use Rattle.std.proofs.Common.{◌≡◌, ◌≢◌, ℕ, zero, suc, ◌+◌, ◌*◌, ◌<◌, ◌≤◌, ◌^◌, Bool, true, false, cond, List, [], ◌∷◌, ◌++◌, length, map, get_or, set, refl, sym, ap, subst, ◌∙◌, inl, inr, arith, zero-add, length-append}
-use Rattle.std.specs.Prelude.{Option, Some, None, is_some, unwrap_or, slice_index, vec_len, vec_capacity, ◌==◌, if◌then◌else◌}
-use Rattle.std.specs.List.{sum_by, count_by, AllByRecursion}
+use Rattle.std.proofs.Common.{◌≡◌, ℕ, suc, ◌+◌, ◌*◌, ◌<◌, ◌≤◌, cond, List, [], ◌∷◌, ◌++◌, length, set, refl, sym, ap, subst, ◌∙◌, inl, inr, arith, zero-add}
+use Rattle.std.specs.Prelude.{Option, None, is_some, unwrap_or, slice_index, vec_len, vec_capacity}
+use Rattle.std.specs.List.{sum_by, AllByRecursion}
 use Rattle.std.proofs.Math.ListN.{length-set}
 use Rattle.std.proofs.lemmas.List.{append-nil, length_push, get_or-set_other}
-use Rattle.std.proofs.lemmas.List.Sums.{sum_by-cons, sum_by-append, count_by-le-length}
+use Rattle.std.proofs.lemmas.List.Sums.{sum_by-cons, count_by-le-length}
 use Rattle.std.proofs.lemmas.Bool.Decides.{eqb_tells}
 use Rattle.vg_model.specs.declared.kinds.DropError.TheVariants.{TooLong}
 use Rattle.vg_model.specs.declared.fates.Leg.{Leg}
 use Rattle.vg_model.specs.declared.fates.End.{End}
 use Rattle.vg_model.specs.declared.fates.End.TheVariants as ends
 use Rattle.vg_model.specs.Errors.{error_number}
-use Rattle.vg_model.specs.Graph.{Graph, arc, kind_at, pg_input, error_drop}
+use Rattle.vg_model.specs.Graph.{kind_at, pg_input, error_drop}
 use Rattle.vg_model.specs.Packet.{fresh}
 use Rattle.vg_model.specs.Leg.{Dropped, first_slot, ends_at}
-use Rattle.vg_model.specs.Valid.{IsValid, IsTarget, IsPacket, AreBytes}
+use Rattle.vg_model.specs.Valid.{IsTarget, AreBytes}
 use Rattle.vg_model.specs.Journey.{longest_packet, end_of}
 use Rattle.vg_model.specs.Count.{is_sent_on}
 use Rattle.vg_model.specs.PoolBook.{CacheBook}
@@ -23,18 +23,20 @@ use Rattle.vg_pool.specs.Contents.{Contents, AreContents, nothing}
 use Rattle.vg_frame.specs.Pending.{pending_at, pending_count}
 use Rattle.vg_frame.specs.Placed.{buffer_at, count}
 use Rattle.vg_frame.proofs.PendingLemmas.{pending_count-put}
-use Rattle.vg_counters.specs.Tally.{Tally, IsWhole, more_at, drops_at}
-use Rattle.vg_dispatch.specs.declared.work.Work.{Work}
-use Rattle.vg_dispatch.specs.Ended.{Ended, ended_by, fate_of, drop_visits}
+use Rattle.vg_counters.specs.Tally.{Tally, IsWhole, drops_at}
+use Rattle.vg_dispatch.specs.declared.underway.Work.{Work}
+use Rattle.vg_dispatch.specs.Ended.{Ended, ended_by, drop_visits}
 use Rattle.vg_dispatch.specs.SentEntries.{sent_by, AreWithin}
 use Rattle.vg_dispatch.specs.Underway.{Setting, Weights, IsSetting, owed, contents_at, live_at, waiting, counts_from, drawn_owed, legs_here}
 use Rattle.vg_dispatch.specs.Places.{same_one, times_waiting}
-use Rattle.vg_dispatch.specs.Works.{total, IsHeld, HasRoom, Advances, Exchanges, CanCount, counted_end, outcome_of, by_bytes, by_visits, sent_len, visits_in_all}
+use Rattle.vg_dispatch.specs.Works.{total, IsHeld, HasRoom, Advances, Exchanges, counted_end, outcome_of, by_bytes, by_visits}
 use Rattle.vg_dispatch.specs.Draws.{CanDraw, DrawsLong, DrawsShort, IsReady, IsDrawn, drawn_bytes, with_source}
 use Rattle.vg_dispatch.proofs.SumLemmas.{sum_from_put, sum_from_none, sum_by_none, same_one_self, same_one_other, counts_from_more, counts_from_none, counts_from_at}
-use Rattle.vg_dispatch.proofs.OwedLemmas.{target_within, drop_within}
-use Rattle.vg_dispatch.proofs.CountLemmas.{more_at_read, error_within, counted_nodes, counted_interfaces, counted_whole, counted_visits_of, counted_drops_at, counted_drops, counted_sends}
-use Rattle.vg_dispatch.proofs.WorkLemmas.{waiting_kept, total_of, fates_grow, advances_none, advances_then, exchanges_none, exchanges_then}
+use Rattle.vg_dispatch.proofs.OwedLemmas.{target_within}
+use Rattle.vg_dispatch.proofs.CountLemmas.{more_at_read, counted_nodes, counted_whole, counted_visits_of, counted_drops_at, counted_drops}
+use Rattle.vg_dispatch.proofs.WorkLemmas.{HasLegs, waiting_kept, total_of, fates_grow, advances_none, advances_then, exchanges_none, exchanges_then}
+use Rattle.vg_dispatch.proofs.TraceLemmas.{not_live, IsNext, traced_none, traced_long, traced_short}
+use Rattle.vg_dispatch.proofs.NextLemmas.{among_none, among_long, among_short}
 use Rattle.vg_dispatch.proofs.KeptLemmas.{long_owed, short_owed, drawn_visits_most, drawn_bytes_most}
 
 -- where nothing is pending, nothing is owed
@@ -65,6 +67,7 @@ drawn_none s packets w cache ready = record {
     targets = λ n some. (let none = ap length (ready.none n) in absurd (omega (arith, some, none)));
     steps = tt;
     sound = λ i. subst (λ o. AreContents (unwrap_or o nothing)) (sym (ready.empty i)) nothing_sound;
+    legs = λ i live. absurd (not_live w.memory i (ready.empty i) live);
     visits = ready.visits;
     sends = ready.sends;
     whole = ready.whole;
@@ -73,6 +76,8 @@ drawn_none s packets w cache ready = record {
   advances = advances_none s 0 w [];
   exchanges = exchanges_none w cache;
   sound = tt;
+  traced = traced_none s w ready.is_notes ready.empty ready.none;
+  low = among_none [] w ready.empty;
 }
 
 -- what is counted of each node so far
@@ -153,6 +158,7 @@ long_held s leg number w new cache new_cache held can long =
       targets = held.targets;
       steps = tt;
       sound = held.sound;
+      legs = held.legs;
       visits = counted_nodes (ends.Dropped pg_input TooLong) (with_source w.counts) ∙ length-set w.counts.visits pg_input _ ∙ held.visits;
       sends = held.sends;
       whole = counted_whole (ends.Dropped pg_input TooLong) (with_source w.counts) can.counts whole;
@@ -244,6 +250,10 @@ short_held s leg number bytes w new cache new_cache ok held can few sound short 
             (record { packet = record { bytes = sound; sound = λ e. cc }; fits = short; few_legs = omega arith })
         | inr other ↦ subst (λ o. AreContents (unwrap_or o nothing)) (sym (draws.placed.others i other.1)) (held.sound i)
       ];
+      legs = λ i. elim (eqb_tells i index) [
+        | inl here ↦ subst HasLegs (sym (ap (buffer_at new.memory) here.1 ∙ draws.placed.changed)) (λ live. omega arith)
+        | inr other ↦ subst HasLegs (sym (draws.placed.others i other.1)) (held.legs i)
+      ];
       visits = ap (λ (x : Tally). length x.visits) counts ∙ length-set w.counts.visits pg_input _ ∙ held.visits;
       sends = ap (λ (x : Tally). length x.sends) counts ∙ held.sends;
       whole = subst IsWhole (sym counts) (record { rows = held.whole.rows ∙ sym (length-set w.counts.visits pg_input _); errors = held.whole.errors });
@@ -297,8 +307,8 @@ all_push P (y ∷ ys) x all one = (all.0, all_push P ys x all.1 one)
 
 -- one packet more
 pub long_drawn : (s : Setting) (leg : Leg) (packets : List (ℕ × List ℕ)) (number : ℕ) (bytes : List ℕ) (old w new : Work) (old_cache cache new_cache : CacheBook) → CanDraw w cache → leg ∷ [] ≡ legs_here s → AreBytes bytes
-    → longest_packet < length bytes → DrawsLong leg number w new cache new_cache → IsDrawn s packets old old_cache w cache → IsDrawn s (packets ++ (number, bytes) ∷ []) old old_cache new new_cache
-long_drawn s leg packets number bytes old w new old_cache cache new_cache can is sound too_long long drawn =
+    → longest_packet < length bytes → DrawsLong leg number w new cache new_cache → IsNext old.trace packets number w → IsDrawn s packets old old_cache w cache → IsDrawn s (packets ++ (number, bytes) ∷ []) old old_cache new new_cache
+long_drawn s leg packets number bytes old w new old_cache cache new_cache can is sound too_long long next drawn =
     let memory : count new.memory ≡ count w.memory = ap (λ (x : Work). count x.memory) long.rest in
     let exchange : Exchanges 1 w new cache new_cache = record {
       len = (let e = ap (λ x. x.len) long.cache in omega (arith, e, memory));
@@ -312,11 +322,13 @@ long_drawn s leg packets number bytes old w new old_cache cache new_cache can is
       advances = advances_then s 0 packets ((number, bytes) ∷ []) old w new [] [] [] drawn.advances (long_advances s leg number bytes w new cache new_cache drawn.held can is too_long long);
       exchanges = subst (λ n. Exchanges n old new old_cache new_cache) (sym (length_push packets (number, bytes))) (exchanges_then (length packets) 1 old w new old_cache cache new_cache drawn.exchanges exchange);
       sound = all_push (λ (p : ℕ × List ℕ). AreBytes p.1) packets (number, bytes) drawn.sound sound;
+      traced = traced_long s leg old.trace packets number bytes w new cache new_cache drawn.held next too_long long drawn.traced;
+      low = among_long leg packets number bytes w new cache new_cache long drawn.low;
     }
 
 pub short_drawn : (s : Setting) (leg : Leg) (packets : List (ℕ × List ℕ)) (number : ℕ) (bytes : List ℕ) (old w new : Work) (old_cache cache new_cache : CacheBook) → IsSetting s → CanDraw w cache → count w.memory < 256 → leg ∷ [] ≡ legs_here s
-    → AreBytes bytes → length bytes ≤ longest_packet → DrawsShort s.graph leg number bytes w new cache new_cache → IsDrawn s packets old old_cache w cache → IsDrawn s (packets ++ (number, bytes) ∷ []) old old_cache new new_cache
-short_drawn s leg packets number bytes old w new old_cache cache new_cache ok can few is sound short draws drawn =
+    → AreBytes bytes → length bytes ≤ longest_packet → DrawsShort s.graph leg number bytes w new cache new_cache → IsNext old.trace packets number w → IsDrawn s packets old old_cache w cache → IsDrawn s (packets ++ (number, bytes) ∷ []) old old_cache new new_cache
+short_drawn s leg packets number bytes old w new old_cache cache new_cache ok can few is sound short draws next drawn =
     let more = draws.count_is in
     let len = draws.len in
     let exchange : Exchanges 1 w new cache new_cache = record {
@@ -331,6 +343,8 @@ short_drawn s leg packets number bytes old w new old_cache cache new_cache ok ca
       advances = advances_then s 0 packets ((number, bytes) ∷ []) old w new [] [] [] drawn.advances (short_advances s leg number bytes w new cache new_cache ok drawn.held can is sound short draws);
       exchanges = subst (λ n. Exchanges n old new old_cache new_cache) (sym (length_push packets (number, bytes))) (exchanges_then (length packets) 1 old w new old_cache cache new_cache drawn.exchanges exchange);
       sound = all_push (λ (p : ℕ × List ℕ). AreBytes p.1) packets (number, bytes) drawn.sound sound;
+      traced = traced_short s leg old.trace packets number bytes w new cache new_cache ok drawn.held next sound short draws drawn.traced;
+      low = among_short s.graph leg packets number bytes w new cache new_cache draws drawn.low;
     }
 
 -- when all are drawn there is room for what is still to come

@@ -1,6 +1,6 @@
 -- A frame is taken, visited and sorted.
-use Rattle.std.proofs.Common.{◌≡◌, ◌≢◌, ℕ, zero, suc, ◌+◌, ◌*◌, ◌<◌, ◌≤◌, ◌^◌, Bool, true, false, cond, List, [], ◌∷◌, ◌++◌, length, map, get_or, set, take, drop, refl, sym, ap, subst, ◌∙◌, inl, inr, arith, zero-add}
-use Rattle.std.specs.Prelude.{Option, Some, None, is_some, option_map, unwrap_or, slice_index, nat_eq, ◌==◌, if◌then◌else◌}
+use Rattle.std.proofs.Common.{◌≡◌, ℕ, zero, suc, ◌+◌, ◌*◌, ◌<◌, ◌≤◌, ◌^◌, true, cond, List, [], ◌∷◌, ◌++◌, length, set, drop, refl, sym, ap, subst, ◌∙◌, inl, inr, arith, zero-add}
+use Rattle.std.specs.Prelude.{Option, Some, None, is_some, option_map, unwrap_or, slice_index, nat_eq}
 use Rattle.std.specs.List.{sum_by, AllByRecursion, IsDistinct}
 use Rattle.std.proofs.Math.ListN.{length-set}
 use Rattle.std.proofs.lemmas.List.{append-nil, take-append-drop, length-take, get_or-set_other}
@@ -10,21 +10,22 @@ use Rattle.std.proofs.lemmas.Bool.{eq-eqb}
 use Rattle.std.proofs.lemmas.Bool.Decides.{eqb_tells}
 use Rattle.vg_model.specs.declared.kinds.Step.{Step}
 use Rattle.vg_model.specs.Graph.{kind_at}
-use Rattle.vg_model.specs.Valid.{IsTarget, IsPacket, IsVisitOf, IsStepOf}
+use Rattle.vg_model.specs.Valid.{IsTarget, IsVisitOf, IsStepOf}
 use Rattle.vg_pool.specs.Contents.{Contents, AreContents, nothing}
 use Rattle.vg_frame.specs.Pending.{frame_size, pending_at, pending_count, TakesFrame}
 use Rattle.vg_frame.specs.Placed.{buffer_at, count, IsLive}
-use Rattle.vg_counters.specs.Tally.{IsWhole, more_at}
+use Rattle.vg_counters.specs.Notes.{Notes}
+use Rattle.vg_counters.specs.Tally.{Tally, more_at}
 use Rattle.vg_nodes.specs.declared.sorted.Sorted.{Sorted}
-use Rattle.vg_nodes.specs.Dispatch.{NodeVisit, step_at, after_visit, IsSortedBy, IsVisitedBy}
-use Rattle.vg_dispatch.specs.declared.work.Work.{Work}
+use Rattle.vg_nodes.specs.Dispatch.{NodeVisit, after_visit, IsSortedBy, IsVisitedBy}
+use Rattle.vg_dispatch.specs.declared.underway.Work.{Work}
 use Rattle.vg_dispatch.specs.Underway.{Setting, Weights, IsSetting, owed, after_at, moved, move_at, move_owed, contents_at, live_at, waiting, in_hand, counts_from, sum_from}
 use Rattle.vg_dispatch.specs.Places.{same_one, times_waiting, times_in_hand}
-use Rattle.vg_dispatch.specs.Works.{total, hand_of, IsHeld, HasRoom, IsSteady, IsStepIn, Advances, by_visits, visits_in_all}
-use Rattle.vg_dispatch.proofs.SumLemmas.{sum_from_take, sum_by_at, sum_by_same, sum_by_none, counts_from_more, counts_from_at, same_one_self}
+use Rattle.vg_dispatch.specs.Works.{total, hand_of, IsHeld, IsSteady, IsStepIn, Advances, by_visits, visits_in_all}
+use Rattle.vg_dispatch.proofs.SumLemmas.{sum_from_take, sum_by_at, counts_from_more, counts_from_at}
 use Rattle.vg_dispatch.proofs.OwedLemmas.{owed_frame, laws_at, target_within}
 use Rattle.vg_dispatch.proofs.SortedLemmas.{sum_hand, step_sum, all_hand, HoldsOfStep, not_among, among_holds, all_live, all_distinct}
-use Rattle.vg_dispatch.proofs.WorkLemmas.{waiting_kept, total_of, room_kept}
+use Rattle.vg_dispatch.proofs.WorkLemmas.{HasLegs, none_live, waiting_kept, total_of, room_kept}
 
 -- where no packet is in hand, any node will do
 pub steady_at : (s : Setting) (node other : ℕ) (w : Work) → IsSteady s node w [] → IsSteady s other w []
@@ -37,6 +38,7 @@ steady_at s node other w steady = record {
     targets = steady.held.targets;
     steps = tt;
     sound = steady.held.sound;
+    legs = steady.held.legs;
     visits = steady.held.visits;
     sends = steady.held.sends;
     whole = steady.held.whole;
@@ -97,6 +99,20 @@ live_most (Some c) = omega arith
 
 pub frame_live : (s : Setting) (w : Work) (node : ℕ) (frame : List ℕ) (pending : List (List ℕ)) → IsHeld s 0 w [] → TakesFrame w.pending node frame pending → AllByRecursion (IsLive w.memory) frame
 frame_live s w node frame pending held takes = all_live w.memory frame (λ i. let e = frame_places s w node frame pending held takes i in omega (arith, e))
+
+-- and where it was counted and noted
+pub noted_live : (s : Setting) (w noted : Work) (node : ℕ) (frame : List ℕ) (pending : List (List ℕ)) (counts : Tally) (trace : Notes) → IsHeld s 0 w [] → TakesFrame w.pending node frame pending
+    → noted ≡ record w { pending = pending; counts = counts; trace = trace } → AllByRecursion (IsLive noted.memory) frame
+noted_live s w noted node frame pending counts trace held takes is = subst (λ (x : Work). AllByRecursion (IsLive x.memory) frame) (sym is) (frame_live s w node frame pending held takes)
+
+legs_of_live : (s : Setting) (w : Work) (frame : List ℕ) → IsHeld s 0 w [] → AllByRecursion (IsLive w.memory) frame
+    → AllByRecursion (λ i. (1 ≤ length (contents_at w.memory i).legs) × (length (contents_at w.memory i).legs ≤ 4)) frame
+legs_of_live s w [] held live = tt
+legs_of_live s w (i ∷ rest) held live = ((held.legs i live.0, (held.sound i).few_legs), legs_of_live s w rest held live.1)
+
+pub frame_legs : (s : Setting) (w : Work) (node : ℕ) (frame : List ℕ) (pending : List (List ℕ)) → IsHeld s 0 w [] → TakesFrame w.pending node frame pending
+    → AllByRecursion (λ i. (1 ≤ length (contents_at w.memory i).legs) × (length (contents_at w.memory i).legs ≤ 4)) frame
+frame_legs s w node frame pending held takes = legs_of_live s w frame held (frame_live s w node frame pending held takes)
 
 pub frame_distinct : (s : Setting) (w : Work) (node : ℕ) (frame : List ℕ) (pending : List (List ℕ)) → IsHeld s 0 w [] → TakesFrame w.pending node frame pending → IsDistinct nat_eq frame
 frame_distinct s w node frame pending held takes =
@@ -170,6 +186,20 @@ visited_sound s node frame old new ok target v sound i = by (sum_by (same_one i)
     by (suc n) some =
         let here = among_holds (λ k. buffer_at new k ≡ option_map (after_visit (s.visit s.graph node)) (buffer_at old k)) i frame v.visited (omega (arith, some)) in
         sound_after s node (buffer_at old i) (buffer_at new i) ok target here (sound i)
+
+-- legs stay
+legs_after : (visit : NodeVisit) (o new : Option Contents) → new ≡ option_map (after_visit visit) o → HasLegs o → HasLegs new
+legs_after visit None new e legs = λ live. absurd (none_live new e live)
+legs_after visit (Some c) new e legs = subst HasLegs (sym e) (λ live. legs refl)
+
+visited_legs : (visit : NodeVisit) (frame : List ℕ) (old new : List (Option Contents)) → IsVisitedBy visit frame old new → ((i : ℕ) → HasLegs (buffer_at old i)) → (i : ℕ) → HasLegs (buffer_at new i)
+visited_legs visit frame old new v legs i = by (sum_by (same_one i) frame) refl
+  where
+    by : (n : ℕ) → sum_by (same_one i) frame ≡ n → HasLegs (buffer_at new i)
+    by zero none = subst HasLegs (sym (v.others i (not_among i frame none))) (legs i)
+    by (suc n) some =
+        let here = among_holds (λ k. buffer_at new k ≡ option_map (after_visit visit) (buffer_at old k)) i frame v.visited (omega (arith, some)) in
+        legs_after visit (buffer_at old i) (buffer_at new i) here (legs i)
 
 -- the steps are the node's
 step_in : (s : Setting) (node i : ℕ) (o : Option Contents) (step : Step) → IsSetting s → IsTarget (kind_at s.graph node) → AreContents (unwrap_or o nothing)
@@ -249,17 +279,18 @@ taken_targets s w node frame pending held takes n some = elim (eqb_tells n node)
 ]
 
 -- a work in which a frame of a node was visited
-abbrev pub with_visited : ℕ → ℕ → List (List ℕ) → List (Option Contents) → Work → Work
-with_visited node visits pending memory w = record w {
+abbrev pub with_visited : ℕ → ℕ → List (List ℕ) → List (Option Contents) → Notes → Work → Work
+with_visited node visits pending memory trace w = record w {
   pending = pending;
   memory = memory;
+  trace = trace;
   counts = record w.counts { visits = more_at node visits w.counts.visits };
 }
 
-visited_held : (s : Setting) (w : Work) (node : ℕ) (frame : List ℕ) (pending : List (List ℕ)) (memory : List (Option Contents)) (sorted : Sorted) → IsSetting s → IsHeld s 0 w []
+visited_held : (s : Setting) (w : Work) (node : ℕ) (frame : List ℕ) (pending : List (List ℕ)) (memory : List (Option Contents)) (trace : Notes) (sorted : Sorted) → IsSetting s → IsHeld s 0 w []
     → TakesFrame w.pending node frame pending → IsSortedBy (s.visit s.graph node) w.memory frame sorted → IsVisitedBy (s.visit s.graph node) frame w.memory memory
-    → IsHeld s node (with_visited node (length frame) pending memory w) (hand_of sorted)
-visited_held s w node frame pending memory sorted ok held takes is v =
+    → IsHeld s node (with_visited node (length frame) pending memory trace w) (hand_of sorted)
+visited_held s w node frame pending memory trace sorted ok held takes is v =
     let live = frame_live s w node frame pending held takes in
     let target = frame_target s w node frame pending held takes in
     record {
@@ -279,6 +310,7 @@ visited_held s w node frame pending memory sorted ok held takes is v =
       targets = taken_targets s w node frame pending held takes;
       steps = all_hand (IsStepIn s node) (s.visit s.graph node) w.memory frame sorted is (steps_in s node w.memory frame ok target held.sound);
       sound = visited_sound s node frame w.memory memory ok target v held.sound;
+      legs = visited_legs (s.visit s.graph node) frame w.memory memory v held.legs;
       visits = length-set w.counts.visits node _ ∙ held.visits;
       sends = held.sends;
       whole = record { rows = held.whole.rows ∙ sym (length-set w.counts.visits node _); errors = held.whole.errors };
@@ -288,10 +320,10 @@ visited_held s w node frame pending memory sorted ok held takes is v =
 visited_counts : (f : ℕ → ℕ) (w : Work) (node k : ℕ) → node < length w.counts.visits → counts_from f 0 (more_at node k w.counts.visits) ≡ counts_from f 0 w.counts.visits + f node * k
 visited_counts f w node k within = counts_from_more f 0 w.counts.visits node k within ∙ ap (λ n. counts_from f 0 w.counts.visits + f n * k) (zero-add node)
 
-visited_advances : (s : Setting) (w : Work) (node : ℕ) (frame : List ℕ) (pending : List (List ℕ)) (memory : List (Option Contents)) (sorted : Sorted) → IsSetting s → IsHeld s 0 w []
+visited_advances : (s : Setting) (w : Work) (node : ℕ) (frame : List ℕ) (pending : List (List ℕ)) (memory : List (Option Contents)) (trace : Notes) (sorted : Sorted) → IsSetting s → IsHeld s 0 w []
     → TakesFrame w.pending node frame pending → IsSortedBy (s.visit s.graph node) w.memory frame sorted → IsVisitedBy (s.visit s.graph node) frame w.memory memory
-    → Advances s node [] w [] (with_visited node (length frame) pending memory w) (hand_of sorted)
-visited_advances s w node frame pending memory sorted ok held takes is v =
+    → Advances s node [] w [] (with_visited node (length frame) pending memory trace w) (hand_of sorted)
+visited_advances s w node frame pending memory trace sorted ok held takes is v =
     let live = frame_live s w node frame pending held takes in
     let target = frame_target s w node frame pending held takes in
     let inside = node_within s w node ok held target in
@@ -304,7 +336,7 @@ visited_advances s w node frame pending memory sorted ok held takes is v =
           let kept = waiting_kept s t w.memory memory pending apart in
           let owes = frame_owed s t w node frame pending ok held takes in
           let hand = hand_owed s t node frame w.memory memory sorted live is v in
-          let t1 = total_of s t (with_visited node (length frame) pending memory w) [] in let t2 = total_of s t w [] in
+          let t1 = total_of s t (with_visited node (length frame) pending memory trace w) [] in let t2 = total_of s t w [] in
           omega (arith, counted, kept, owes, hand, t1, t2);
       live = (let same = v.count in omega (arith, same));
       fates = sym (append-nil w.fates.items);
@@ -320,22 +352,22 @@ visited_advances s w node frame pending memory sorted ok held takes is v =
     }
 
 -- a frame that was taken and visited is in hand
-pub visited_steady : (s : Setting) (w : Work) (node : ℕ) (frame : List ℕ) (pending : List (List ℕ)) (memory : List (Option Contents)) (sorted : Sorted) → IsSetting s → IsSteady s 0 w []
+pub visited_steady : (s : Setting) (w : Work) (node : ℕ) (frame : List ℕ) (pending : List (List ℕ)) (memory : List (Option Contents)) (trace : Notes) (sorted : Sorted) → IsSetting s → IsSteady s 0 w []
     → TakesFrame w.pending node frame pending → IsSortedBy (s.visit s.graph node) w.memory frame sorted → IsVisitedBy (s.visit s.graph node) frame w.memory memory
-    → IsSteady s node (with_visited node (length frame) pending memory w) (hand_of sorted) × Advances s node [] w [] (with_visited node (length frame) pending memory w) (hand_of sorted)
-visited_steady s w node frame pending memory sorted ok steady takes is v =
-    let a = visited_advances s w node frame pending memory sorted ok steady.held takes is v in (
+    → IsSteady s node (with_visited node (length frame) pending memory trace w) (hand_of sorted) × Advances s node [] w [] (with_visited node (length frame) pending memory trace w) (hand_of sorted)
+visited_steady s w node frame pending memory trace sorted ok steady takes is v =
+    let a = visited_advances s w node frame pending memory trace sorted ok steady.held takes is v in (
       record {
-        held = visited_held s w node frame pending memory sorted ok steady.held takes is v;
-        room = room_kept s node w (with_visited node (length frame) pending memory w) [] (hand_of sorted) (steady_at s 0 node w steady).room a;
+        held = visited_held s w node frame pending memory trace sorted ok steady.held takes is v;
+        room = room_kept s node w (with_visited node (length frame) pending memory trace w) [] (hand_of sorted) (steady_at s 0 node w steady).room a;
       },
       a,
     )
 
 -- and so many visits more are counted
-pub visited_more : (s : Setting) (w : Work) (node : ℕ) (frame : List ℕ) (pending : List (List ℕ)) (memory : List (Option Contents)) → IsSetting s → IsHeld s 0 w []
-    → TakesFrame w.pending node frame pending → visits_in_all w.counts < visits_in_all (with_visited node (length frame) pending memory w).counts
-visited_more s w node frame pending memory ok held takes =
+pub visited_more : (s : Setting) (w : Work) (node : ℕ) (frame : List ℕ) (pending : List (List ℕ)) (memory : List (Option Contents)) (trace : Notes) → IsSetting s → IsHeld s 0 w []
+    → TakesFrame w.pending node frame pending → visits_in_all w.counts < visits_in_all (with_visited node (length frame) pending memory trace w).counts
+visited_more s w node frame pending memory trace ok held takes =
     let counted = visited_counts (λ n. 1) w node (length frame) (node_within s w node ok held (frame_target s w node frame pending held takes)) in
     let some = frame_some w.pending pending node frame takes in
     omega (arith, counted, some)

@@ -1,18 +1,17 @@
 -- What a leg keeps of a packet, how long it is, and where it ends with one worker.
-use Rattle.std.proofs.Common.{◌≡◌, ℕ, zero, suc, ◌+◌, ◌*◌, ◌%◌, ◌<◌, ◌≤◌, Bool, true, false, cond, List, [], ◌∷◌, ◌++◌, length, refl, sym, ap, subst, ◌∙◌, arith}
+use Rattle.std.proofs.Common.{◌≡◌, ℕ, zero, suc, ◌+◌, ◌<◌, ◌≤◌, Bool, true, false, cond, List, [], ◌∷◌, length, refl, sym, ap, subst, ◌∙◌, arith}
 use Rattle.std.specs.Prelude.{Option, Some, None, option_map, option_and_then, unwrap_or, nat_lt, ◌==◌, if◌then◌else◌}
 use Rattle.std.specs.List.{sum_by}
 use Rattle.std.proofs.lemmas.Option.{none-some, same_Some}
-use Rattle.std.proofs.lemmas.List.Sums.{sum_by-cons, sum_by-append}
+use Rattle.std.proofs.lemmas.List.Sums.{sum_by-cons}
 use Rattle.std.proofs.lemmas.Bool.{le-ltb, lt-ltb}
 use Rattle.vg_model.specs.declared.kinds.DropError.TheVariants.{TooLong, HandoffLimit}
 use Rattle.vg_model.specs.declared.kinds.Kind.TheVariants as kinds
 use Rattle.vg_model.specs.declared.kinds.Step.{Step}
 use Rattle.vg_model.specs.declared.kinds.Step.TheVariants as steps
-use Rattle.vg_model.specs.declared.fates.Leg.{Leg}
 use Rattle.vg_model.specs.Hash.{target_worker}
 use Rattle.vg_model.specs.Packet.{Packet, fresh}
-use Rattle.vg_model.specs.Graph.{Graph, arc, kind_at, slots, pg_input, error_drop}
+use Rattle.vg_model.specs.Graph.{Graph, arc, kind_at, pg_input, error_drop}
 use Rattle.vg_model.specs.Visit.{Visit}
 use Rattle.vg_model.specs.Leg.{Outcome, Sent, Dropped, Handed, Way, Move, Onward, Over, first_slot, joined, move_of, after_visit, ends_at, leg_within, leg}
 use Rattle.vg_model.specs.Valid.{IsValid, IsKindSet, IsVisitOf, IsPacket, IsTarget, AreBytes}
@@ -20,12 +19,10 @@ use Rattle.vg_model.specs.Journey.{longest_packet, first_leg, leg_from}
 use Rattle.vg_model.proofs.Journeys.{map_some, then_some}
 use Rattle.vg_model.proofs.LegLemmas.{move_arc}
 use Rattle.vg_model.proofs.LegEnds.{leg_some, arc_target, arc_some}
-use Rattle.vg_pool.specs.Contents.{Contents}
-use Rattle.vg_dispatch.specs.Ended.{Ended, ended_by, drop_visits}
+use Rattle.vg_dispatch.specs.Ended.{ended_by, drop_visits}
 use Rattle.vg_dispatch.specs.Round.{StaysHere}
 use Rattle.vg_dispatch.specs.Underway.{Setting, Weights, IsSetting, way_weight, owed, drawn_leg, drawn_owed, legs_here}
-use Rattle.vg_dispatch.specs.Works.{by_bytes, by_visits, sent_bytes_of, sent_len}
-use Rattle.vg_dispatch.specs.Draws.{drawn_bytes}
+use Rattle.vg_dispatch.specs.Works.{by_bytes, by_visits, sent_bytes_of}
 use Rattle.vg_dispatch.proofs.SumLemmas.{sum_by_none}
 use Rattle.vg_dispatch.proofs.OwedLemmas.{some_weight}
 
@@ -107,7 +104,7 @@ source_arc g valid =
     let found = arc_some g pg_input first_slot kinds.PgInput valid valid.source (omega arith) in
     (found.0, found.1, arc_target g pg_input found.0 valid (first_slot, found.1))
 
-fresh_sound : (number : ℕ) (bytes : List ℕ) → AreBytes bytes → IsPacket (fresh number bytes)
+pub fresh_sound : (number : ℕ) (bytes : List ℕ) → AreBytes bytes → IsPacket (fresh number bytes)
 fresh_sound number bytes sound = record { bytes = sound; sound = λ e. cc }
 
 -- the leg of a packet that is drawn: too long, or from the node that the packet source leads to
@@ -198,7 +195,7 @@ visits_most : (m : ℕ) (visits : List ℕ) → sum_by (by_visits m).visits visi
 visits_most m [] = omega arith
 visits_most m (n ∷ ns) = let rest = visits_most m ns in let one = at_most_one n m in omega (arith, rest, one, sum_by-cons (by_visits m).visits n ns)
 
-drop_visits_most : (outcome : Outcome) → length (drop_visits outcome) ≤ 1
+pub drop_visits_most : (outcome : Outcome) → length (drop_visits outcome) ≤ 1
 drop_visits_most (Sent interface) = omega arith
 drop_visits_most (Handed node worker) = omega arith
 drop_visits_most (Dropped node error) = by (node == error_drop)

@@ -6,7 +6,12 @@ pub mod CountLemmas
 pub mod PutLemmas
 pub mod SortedLemmas
 pub mod FrameLemmas
-pub mod AwayLemmas
 pub mod KeptLemmas
+pub mod NotedLemmas
+pub mod TraceLemmas
+pub mod VisitedLemmas
+pub mod AwayLemmas
+pub mod NextLemmas
 pub mod DrawLemmas
 pub mod RestLemmas
+pub mod TestLemmas

@@ -1,7 +1,7 @@
 -- A packet that was visited is put away: it waits for another node, or its leg is over.
-use Rattle.std.proofs.Common.{◌≡◌, ◌≢◌, ℕ, suc, ◌+◌, ◌*◌, ◌<◌, ◌≤◌, Bool, true, false, cond, List, [], ◌∷◌, ◌++◌, length, map, get_or, set, refl, sym, ap, subst, ◌∙◌, inl, inr, arith, zero-add}
+use Rattle.std.proofs.Common.{◌≡◌, ℕ, suc, ◌+◌, ◌<◌, cond, List, [], ◌∷◌, ◌++◌, length, set, refl, sym, ap, subst, ◌∙◌, inl, inr, arith, zero-add}
 use Rattle.std.specs.Prelude.{Option, Some, None, is_some, unwrap_or, slice_index}
-use Rattle.std.specs.List.{sum_by, filter_map, cons_option}
+use Rattle.std.specs.List.{sum_by, cons_option}
 use Rattle.std.specs.Option.{option_to_list}
 use Rattle.std.proofs.Math.ListN.{length-set}
 use Rattle.std.proofs.lemmas.List.{append-nil, get_or-set_other}
@@ -9,7 +9,6 @@ use Rattle.std.proofs.lemmas.List.Sums.{sum_by-cons}
 use Rattle.std.proofs.lemmas.Bool.Decides.{eqb_tells}
 use Rattle.vg_model.specs.declared.kinds.Step.{Step}
 use Rattle.vg_model.specs.declared.fates.End.{End}
-use Rattle.vg_model.specs.declared.fates.End.TheVariants.{Tx, Dropped}
 use Rattle.vg_model.specs.Graph.{Graph, kind_at}
 use Rattle.vg_model.specs.Valid.{IsTarget}
 use Rattle.vg_model.specs.Leg.{Onward, Over}
@@ -20,15 +19,15 @@ use Rattle.vg_frame.proofs.PendingLemmas.{pending_count-put}
 use Rattle.vg_counters.specs.Tally.{IsWhole, drops_at}
 use Rattle.vg_model.specs.Errors.{error_number}
 use Rattle.vg_dispatch.specs.SentEntries.{sent_by}
-use Rattle.vg_dispatch.specs.declared.work.Work.{Work}
-use Rattle.vg_dispatch.specs.Ended.{Ended, fate_of, sent_of, drop_visits}
-use Rattle.vg_dispatch.specs.Underway.{Setting, Weights, IsSetting, owed, moved, move_owed, end_weight, contents_at, live_at, waiting, in_hand, counts_from}
+use Rattle.vg_dispatch.specs.declared.underway.Work.{Work}
+use Rattle.vg_dispatch.specs.Ended.{Ended, sent_of, drop_visits}
+use Rattle.vg_dispatch.specs.Underway.{Setting, IsSetting, owed, moved, move_owed, contents_at, live_at, waiting, in_hand, counts_from}
 use Rattle.vg_dispatch.specs.Places.{same_one, times_waiting, times_in_hand}
-use Rattle.vg_dispatch.specs.Works.{total, IsHeld, HasRoom, IsSteady, IsStepIn, Advances, Finishes, CanCount, outcome_of, ended_with, counted_end, sent_len}
-use Rattle.vg_dispatch.proofs.SumLemmas.{sum_from_put, same_one_self, same_one_other}
+use Rattle.vg_dispatch.specs.Works.{IsHeld, IsSteady, Advances, Finishes, CanCount, outcome_of, ended_with}
+use Rattle.vg_dispatch.proofs.SumLemmas.{sum_from_put, same_one_other}
 use Rattle.vg_dispatch.proofs.OwedLemmas.{target_within}
 use Rattle.vg_dispatch.proofs.CountLemmas.{counted_nodes, counted_interfaces, counted_whole, counted_visits_of, counted_drops_at, counted_drops, counted_sends}
-use Rattle.vg_dispatch.proofs.WorkLemmas.{waits_nowhere, waiting_kept, in_hand_kept, total_of, room_kept}
+use Rattle.vg_dispatch.proofs.WorkLemmas.{HasLegs, none_live, waits_nowhere, waiting_kept, in_hand_kept, total_of, room_kept}
 
 -- a work in which an index waits for a node, behind the others
 abbrev pub with_waiting : ℕ → ℕ → Work → Work
@@ -43,7 +42,7 @@ waiting_targets g pending to index is all n h =
       | inr other ↦ all n (subst (λ q. 0 < length q) (get_or-set_other pending to n (pending_at pending to ++ index ∷ []) [] other.1) h)
     ]
 
-to_within : (s : Setting) (node : ℕ) (w : Work) (hand : List (ℕ × Step)) (to : ℕ) → IsSetting s → IsHeld s node w hand → IsTarget (kind_at s.graph to) → to < length w.pending
+pub to_within : (s : Setting) (node : ℕ) (w : Work) (hand : List (ℕ × Step)) (to : ℕ) → IsSetting s → IsHeld s node w hand → IsTarget (kind_at s.graph to) → to < length w.pending
 to_within s node w hand to ok held target =
     let in_graph = target_within s.graph to target in
     let few = ok.few_nodes in
@@ -65,6 +64,7 @@ put_held s node w p rest to ok held target =
       targets = waiting_targets s.graph w.pending to p.0 target held.targets;
       steps = held.steps.1;
       sound = held.sound;
+      legs = held.legs;
       visits = held.visits;
       sends = held.sends;
       whole = held.whole;
@@ -138,6 +138,10 @@ finish_held s node w new p rest end held can f =
       sound = λ i. elim (eqb_tells i p.0) [
         | inl here ↦ subst (λ o. AreContents (unwrap_or o nothing)) (sym (ap (buffer_at new.memory) here.1 ∙ gone)) nothing_sound
         | inr other ↦ subst (λ o. AreContents (unwrap_or o nothing)) (sym (f.memory.others i other.1)) (held.sound i)
+      ];
+      legs = λ i live. elim (eqb_tells i p.0) [
+        | inl here ↦ absurd (none_live (buffer_at new.memory i) (ap (buffer_at new.memory) here.1 ∙ gone) live)
+        | inr other ↦ subst HasLegs (sym (f.memory.others i other.1)) (held.legs i) live
       ];
       visits = ap (λ c. length c.visits) f.counts ∙ counted_nodes end w.counts ∙ held.visits;
       sends = ap (λ c. length c.sends) f.counts ∙ counted_interfaces end w.counts ∙ held.sends;

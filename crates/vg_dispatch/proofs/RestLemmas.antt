@@ -1,12 +1,10 @@
 -- From one rest of a worker to the next.
-use Rattle.std.proofs.Common.{◌≡◌, ℕ, zero, suc, ◌+◌, ◌-◌, ◌*◌, ◌<◌, ◌≤◌, ◌^◌, Bool, true, false, cond, List, [], ◌∷◌, ◌++◌, length, map, get_or, take, drop, refl, sym, ap, subst, ◌∙◌, arith, inl, inr}
-use Rattle.std.specs.Prelude.{Option, Some, None, is_some, option_map, unwrap_or, slice_index, replicate, min, Vec, vec_len, vec_capacity, ◌==◌, if◌then◌else◌}
+use Rattle.std.proofs.Common.{◌≡◌, ℕ, zero, suc, ◌+◌, ◌-◌, ◌<◌, ◌≤◌, ◌^◌, cond, List, [], ◌∷◌, ◌++◌, length, map, get_or, take, drop, refl, sym, ap, subst, ◌∙◌, arith, inl, inr}
+use Rattle.std.specs.Prelude.{Option, Some, None, is_some, option_map, unwrap_or, slice_index, replicate, min, Vec, vec_len, flat_map, ◌==◌, if◌then◌else◌}
 use Rattle.std.specs.List.{sum_by, count_by, AllByRecursion, enumerate_from}
-use Rattle.std.proofs.lemmas.List.{append-nil, map_push, length-map, length-take, length-drop, take_all, take_more, drop_all, drop-drop}
+use Rattle.std.proofs.lemmas.List.{append-nil, get_or_past, map_push, length-map, length-take, length-drop, take_all, take_more, drop_all, drop-drop}
 use Rattle.std.proofs.lemmas.List.FromFn.{length-enumerate_from}
 use Rattle.std.proofs.lemmas.List.Sums.{sum_by-cons, sum_by-append, sum_by_more, sum_by-take-le, sum_by-take-drop, count_by-le-length}
-use Rattle.vg_model.specs.declared.fates.Leg.{Leg}
-use Rattle.vg_model.specs.Errors.{error_number}
 use Rattle.vg_model.specs.Graph.{Graph}
 use Rattle.vg_model.specs.Visit.{Visit}
 use Rattle.vg_model.specs.Valid.{AreBytes}
@@ -24,21 +22,25 @@ use Rattle.std.specs.declared.alloc.Global.{Global}
 use Rattle.std.proofs.lemmas.Bool.{cases_lt}
 use Rattle.std.proofs.lemmas.List.Elements.{All-replicate}
 use Rattle.vg_model.specs.Edit.{most_nodes, most_interfaces}
-use Rattle.vg_counters.specs.Tally.{Tally, IsWhole, count_of_errors, drops_at, nothing_counted}
+use Rattle.vg_counters.specs.Notes.{Notes, nodes_of, nothing_noted, count_of_legs}
+use Rattle.vg_counters.specs.Tally.{Tally, IsWhole, count_of_errors, drops_at}
 use Rattle.vg_dispatch.specs.declared.options.Options.{Options}
-use Rattle.vg_dispatch.specs.declared.work.Work.{Work}
+use Rattle.vg_dispatch.specs.declared.underway.Work.{Work}
 use Rattle.vg_dispatch.specs.declared.sent.SentEntry.{SentEntry}
 use Rattle.vg_dispatch.specs.SentEntries.{sent_by, AreWithin}
 use Rattle.vg_dispatch.specs.Ended.{Ended, ended_by, counted_visits, drop_visits}
 use Rattle.vg_dispatch.specs.Progress.{Progress, captured_bytes, begun, draws, IsAlone, AreInRange, IsOwnCapture}
 use Rattle.vg_dispatch.specs.Round.{IsRound, EndsHere, own_leg, own_ends, own_visits, legs_under}
-use Rattle.vg_dispatch.specs.Underway.{Setting, Weights, IsSetting, alone, way_weight, counts_from, live_at, waiting, drawn_leg, drawn_owed}
+use Rattle.vg_dispatch.specs.Underway.{Setting, Weights, IsSetting, alone, way_weight, counts_from, live_at, drawn_owed}
 use Rattle.vg_dispatch.specs.Places.{same_one, times_waiting}
-use Rattle.vg_dispatch.specs.Works.{total, IsHeld, IsSteady, Advances, Exchanges, TakesAll, by_bytes, by_visits, sent_len}
-use Rattle.vg_dispatch.specs.Draws.{IsReady, IsDrawn, drawn_bytes}
+use Rattle.vg_dispatch.specs.Traced.{IsTraced, IsNotes, drawn_notes, all_visits}
+use Rattle.vg_dispatch.specs.Works.{total, IsHeld, Advances, Exchanges, TakesAll, by_bytes, by_visits}
+use Rattle.vg_dispatch.specs.Draws.{IsReady, drawn_bytes}
 use Rattle.vg_dispatch.specs.Rest.{progress_of, numbered_from, IsAtRest, IsNew}
 use Rattle.vg_dispatch.proofs.SumLemmas.{sum_from_none, sum_by_same, sum_by_none, counts_from_none, counts_from_at}
 use Rattle.vg_dispatch.proofs.WorkLemmas.{total_of, fates_grow, advances_then}
+use Rattle.vg_dispatch.proofs.TraceLemmas.{notes_below, traced_over}
+use Rattle.vg_dispatch.proofs.NextLemmas.{numbers_below}
 use Rattle.vg_dispatch.proofs.KeptLemmas.{drawn_way, drawn_here}
 use Rattle.vg_dispatch.proofs.DrawLemmas.{nothing_waiting, visits_so_far, bytes_so_far, sum_lengths}
 
@@ -96,6 +98,16 @@ numbered_bytes mark (c ∷ cs) =
     let rest = numbered_bytes (mark + 1) cs in
     omega (arith, rest, sum_by-cons (λ (p : ℕ × List ℕ). length p.1) (mark, c.bytes) (numbered_from (mark + 1) cs), sum_by-cons (λ (c : Captured). length c.bytes) c cs)
 
+-- what holds of each number from here on
+pub numbered_from_on : (P : ℕ → Type 0) (mark : ℕ) (packets : List Captured) → ((n : ℕ) → mark ≤ n → P n) → AllByRecursion (λ (packet : ℕ × List ℕ). P packet.0) (numbered_from mark packets)
+numbered_from_on P mark [] all = tt
+numbered_from_on P mark (c ∷ cs) all = (all mark (omega arith), numbered_from_on P (mark + 1) cs (λ n on. all n (omega (arith, on))))
+
+-- and of each number below those
+pub numbered_below : (mark most : ℕ) (packets : List Captured) → mark + length packets ≤ most → AllByRecursion (λ (packet : ℕ × List ℕ). packet.0 < most) (numbered_from mark packets)
+numbered_below mark most packets fits =
+    numbers_below mark most (map (λ (captured : Captured). captured.bytes) packets) (omega (arith, fits, length-map packets (λ (captured : Captured). captured.bytes)))
+
 -- at rest there is room for a stretch of packets
 pub ready_of : (number packets mark left n : ℕ) (w : Work) (cache : CacheBook) (stretch : List Captured) → IsAtRest number packets mark left w → length stretch ≡ n → n ≤ 256 → vec_len w.fates + n ≤ packets → n ≤ cache.len
     → cache.len ≤ most_cached → cache.allocated < 2 ^ 61 → cache.freed < 2 ^ 61 → captured_bytes stretch ≤ left → IsReady (numbered_from mark stretch) w cache
@@ -121,6 +133,8 @@ ready_of number packets mark left n w cache stretch rest size few within buffers
       buffers = (omega (arith, len, buffers), most);
       allocated = allocated;
       freed = freed;
+      is_notes = rest.is_notes;
+      unmet = numbered_from_on (λ n. (leg : ℕ) → nodes_of n leg w.trace ≡ []) mark stretch (λ n on leg. rest.unmet n leg on);
     }
 
 none_of_live : (o : Option Contents) → ◌≡◌ {A = ℕ} (cond (is_some o) 1 0) 0 → o ≡ None
@@ -142,11 +156,27 @@ all_counted s t all packets old new cache ready a none =
     let done = nothing_waiting s t new.memory new.pending none in
     omega (arith, same, t1, t2, idle, done)
 
+-- nothing waits, so no index has a buffer
+none_left : (s : Setting) (w : Work) → IsHeld s 0 w [] → IsNothingPending w.pending → (i : ℕ) → buffer_at w.memory i ≡ None
+none_left s w held none i =
+    let places : times_waiting i w.pending + 0 ≡ live_at w.memory i = held.places i in
+    let idle : times_waiting i w.pending ≡ 0 = sum_from_none (λ node. same_one i) 0 w.pending none in
+    none_of_live (buffer_at w.memory i) (omega (arith, places, idle))
+
+-- nothing is noted of numbers past those that are traced, nor of those that were not drawn
+past_notes : (number leg : ℕ) (notes : Notes) → length notes ≤ number → nodes_of number leg notes ≡ []
+past_notes number leg notes past = ap (λ row. get_or row leg []) (get_or_past notes number [] past)
+
+all_below : (mark number : ℕ) (packets : List (ℕ × List ℕ)) → mark ≤ number → AllByRecursion (λ (p : ℕ × List ℕ). p.0 < mark) packets → AllByRecursion (λ (p : ℕ × List ℕ). p.0 < number) packets
+all_below mark number [] on below = tt
+all_below mark number (p ∷ ps) on below = (let less = below.0 in omega (arith, on, less), all_below mark number ps on below.1)
+
 -- at rest again
 pub rest_after : (s : Setting) (number packets mark left n bytes : ℕ) (drawn : List (ℕ × List ℕ)) (old new : Work) (cache : CacheBook) → IsSetting s → IsAtRest number packets mark left old → IsReady drawn old cache
     → length drawn ≡ n → drawn_bytes drawn ≡ bytes → bytes ≤ left → vec_len old.fates + n ≤ packets → mark + n ≤ packets + number → AllByRecursion (λ (p : ℕ × List ℕ). AreBytes p.1) drawn
-    → Advances s 0 drawn old [] new [] → IsHeld s 0 new [] → IsNothingPending new.pending → IsAtRest number packets (mark + n) (left - bytes) new
-rest_after s number packets mark left n bytes drawn old new cache ok rest ready size weight fits within at sound a held none =
+    → AllByRecursion (λ (p : ℕ × List ℕ). p.0 < mark + n) drawn
+    → Advances s 0 drawn old [] new [] → IsHeld s 0 new [] → IsNothingPending new.pending → IsTraced s (all_visits s old.trace drawn) (length old.trace) 0 new [] → IsAtRest number packets (mark + n) (left - bytes) new
+rest_after s number packets mark left n bytes drawn old new cache ok rest ready size weight fits within at sound below a held none traced =
     let live = a.live in
     let empty = rest.no_buffer in
     let pending_none = sum_lengths new.pending none in
@@ -156,10 +186,7 @@ rest_after s number packets mark left n bytes drawn old new cache ok rest ready 
     record {
       nodes = held.nodes;
       none = none;
-      empty = λ i.
-          let places : times_waiting i new.pending + 0 ≡ live_at new.memory i = held.places i in
-          let idle : times_waiting i new.pending ≡ 0 = sum_from_none (λ node. same_one i) 0 new.pending none in
-          none_of_live (buffer_at new.memory i) (omega (arith, places, idle));
+      empty = none_left s new held none;
       no_buffer = gone;
       visits = held.visits;
       sends = held.sends;
@@ -187,6 +214,14 @@ rest_after s number packets mark left n bytes drawn old new cache ok rest ready 
           omega (arith, h, counted, nothing_ended, here, there, most, grow, live, gone, empty, size));
       dropped = λ node error. (let h = rest.dropped node error in let e = a.drops_most node error in omega (arith, h, e, grow));
       sent = λ interface. (let h = rest.sent interface in let e = a.sends interface in let most = count_by-le-length (λ (x : Ended). is_sent_on interface (end_of x.outcome)) a.ended in omega (arith, h, e, most, grow));
+      is_notes = traced.is_notes;
+      unmet = λ k leg on. elim (cases_lt k (length old.trace)) [
+        | inl inside ↦
+            traced_over s (all_visits s old.trace drawn) (length old.trace) new k leg (none_left s new held none) inside traced
+            ∙ ap (λ xs. xs ++ flat_map (drawn_notes s k leg) drawn) (rest.unmet k leg (omega (arith, on)))
+            ∙ notes_below s k leg drawn (all_below (mark + n) k drawn on below)
+        | inr past ↦ past_notes k leg new.trace (let same = traced.size in omega (arith, same, past))
+      ];
     }
 
 -- what each packet's leg adds
@@ -212,12 +247,13 @@ all_here visit g generation (p ∷ ps) ok sound =
 
 -- what a round comes to
 pub round_of : (visit : Visit) (g : Graph) (generation number : ℕ) (options : Options) (packets mark left new_mark new_left : ℕ) (drawn : List (ℕ × List ℕ)) (old new : Work) (cache : CacheBook) → IsSetting (alone visit g generation)
-    → IsReady drawn old cache → AllByRecursion (λ (p : ℕ × List ℕ). AreBytes p.1) drawn → Advances (alone visit g generation) 0 drawn old [] new [] → IsNothingPending new.pending
-    → IsRound visit g generation drawn (progress_of number options packets mark left old) (progress_of number options packets new_mark new_left new)
-round_of visit g generation number options packets mark left new_mark new_left drawn old new cache ok ready sound a none =
+    → IsReady drawn old cache → AllByRecursion (λ (p : ℕ × List ℕ). AreBytes p.1) drawn → Advances (alone visit g generation) 0 drawn old [] new [] → IsHeld (alone visit g generation) 0 new [] → IsNothingPending new.pending
+    → IsTraced (alone visit g generation) (all_visits (alone visit g generation) old.trace drawn) (length old.trace) 0 new [] → IsRound visit g generation drawn (progress_of number options packets mark left old) (progress_of number options packets new_mark new_left new)
+round_of visit g generation number options packets mark left new_mark new_left drawn old new cache ok ready sound a held none traced =
     let s : Setting = alone visit g generation in
     record {
       here = all_here visit g generation drawn ok sound;
+      bytes = sound;
       ends = a.ended;
       same = λ f.
           let t : Weights = record { visits = λ n. 0; ends = f } in
@@ -237,6 +273,8 @@ round_of visit g generation number options packets mark left new_mark new_left d
           omega (arith, counted, nothing_ended, c1, c2, each);
       drops = a.drops;
       sends = a.sends;
+      traced = traced.size;
+      notes = λ k leg inside. traced_over s (all_visits s old.trace drawn) (length old.trace) new k leg (none_left s new held none) inside traced;
     }
 
 -- a worker that is new is at rest
@@ -255,11 +293,21 @@ rows_replicated zero n error = refl
 rows_replicated (suc k) zero error = zero_replicated count_of_errors error
 rows_replicated (suc k) (suc n) error = rows_replicated k n error
 
+new_notes : (n : ℕ) → IsNotes (nothing_noted n)
+new_notes zero k inside = absurd (omega (arith, inside))
+new_notes (suc n) zero inside = refl
+new_notes (suc n) (suc k) inside = new_notes n k (omega (arith, inside))
+
+none_noted : (n k leg : ℕ) → nodes_of k leg (nothing_noted n) ≡ []
+none_noted zero k leg = refl
+none_noted (suc n) zero leg = none_replicated count_of_legs leg
+none_noted (suc n) (suc k) leg = none_noted n k leg
+
 empty_len : {X : Type 0} (v : Vec X Global) → v.items ≡ [] → vec_len v ≡ 0
 empty_len v none = v.ok.0 ∙ ap length none
 
-pub rest_of_new : (number packets bytes left : ℕ) (w : Work) → IsNew packets bytes w → packets ≤ 65536 → left ≤ bytes → IsAtRest number packets number left w
-rest_of_new number packets bytes left w new few fits =
+pub rest_of_new : (number packets bytes left traced : ℕ) (w : Work) → IsNew packets bytes traced w → packets ≤ 65536 → left ≤ bytes → IsAtRest number packets number left w
+rest_of_new number packets bytes left traced w new few fits =
     let fates = empty_len w.fates new.fates in
     let entries = empty_len w.entries new.entries in
     let no_bytes = empty_len w.bytes new.bytes in
@@ -282,6 +330,8 @@ rest_of_new number packets bytes left w new few fits =
       visited = λ node. (let none : slice_index w.counts.visits node ≡ 0 = ap (λ (t : Tally). slice_index t.visits node) new.counts ∙ zero_replicated most_nodes node in omega (arith, none));
       dropped = λ node error. (let none : drops_at node error w.counts.drops ≡ 0 = ap (λ (t : Tally). drops_at node error t.drops) new.counts ∙ rows_replicated most_nodes node error in omega (arith, none));
       sent = λ interface. (let none : slice_index w.counts.sends interface ≡ 0 = ap (λ (t : Tally). slice_index t.sends interface) new.counts ∙ zero_replicated most_interfaces interface in omega (arith, none));
+      is_notes = subst (λ t. IsNotes t) (sym new.trace) (new_notes traced);
+      unmet = λ k leg on. ap (nodes_of k leg) new.trace ∙ none_noted traced k leg;
     }
 
 -- the bytes from a number on
@@ -292,11 +342,12 @@ bytes_from number packets = elim (cases_lt number (length packets)) [
       ap captured_bytes (drop_all (min number (length packets)) packets (omega (arith, past))) ∙ ap captured_bytes (sym (drop_all number packets past))
 ]
 
-pub begun_of : (number : ℕ) (options : Options) (capture : Capture) (left bytes : ℕ) (w : Work) → IsNew (length capture.packets) bytes w → left ≡ captured_bytes (drop number capture.packets)
+pub begun_of : (number : ℕ) (options : Options) (capture : Capture) (left bytes traced : ℕ) (w : Work) → IsNew (length capture.packets) bytes traced w → traced ≡ min options.trace (length capture.packets) → left ≡ captured_bytes (drop number capture.packets)
     → progress_of number options (length capture.packets) number left w ≡ begun number options capture
-begun_of number options capture left bytes w new is =
+begun_of number options capture left bytes traced w new so_many is =
     let sent : sent_by w.entries.items w.bytes.items ≡ [] = ap (λ es. sent_by es w.bytes.items) new.entries in
-    cc (is, sent, new.fates, new.counts)
+    let trace : w.trace ≡ nothing_noted (min options.trace (length capture.packets)) = new.trace ∙ ap nothing_noted so_many in
+    cc (is, sent, new.fates, new.counts, trace)
 
 -- a round begins with so many packets
 pub record BeginsRound (p : Progress) (capture : Capture) (limit : ℕ) (cache : CacheBook) (number packets mark left n : ℕ) (w : Work) : Type 0 where

@@ -1,35 +1,41 @@
 -- What stays as a worker's buffers go from place to place.
-use Rattle.std.proofs.Common.{◌≡◌, ◌≢◌, ℕ, zero, suc, ◌+◌, ◌<◌, ◌≤◌, ◌^◌, Bool, true, false, cond, List, [], ◌∷◌, ◌++◌, length, map, get_or, set, refl, sym, ap, subst, ◌∙◌, arith, append_assoc, length-append}
-use Rattle.std.specs.Prelude.{Option, Some, None, is_some, unwrap_or, slice_index, vec_len, vec_capacity}
-use Rattle.std.specs.List.{sum_by, count_by, filter_map}
+use Rattle.std.proofs.Common.{◌≡◌, ℕ, ◌+◌, ◌<◌, ◌≤◌, true, cond, List, [], ◌∷◌, ◌++◌, length, map, refl, sym, ap, ◌∙◌, arith, append_assoc, length-append}
+use Rattle.std.specs.Prelude.{Option, Some, None, is_some, unwrap_or, vec_len}
+use Rattle.std.specs.List.{sum_by, filter_map}
 use Rattle.std.proofs.lemmas.List.{append-nil, map-append, length-map}
 use Rattle.std.proofs.lemmas.List.Elements.{filter_map-append}
+use Rattle.std.proofs.lemmas.Option.{none-some}
 use Rattle.std.proofs.lemmas.List.Sums.{sum_by-cons, sum_by-append, count_by-le-length}
-use Rattle.vg_model.specs.declared.kinds.DropError.{DropError}
 use Rattle.vg_model.specs.declared.kinds.Step.{Step}
-use Rattle.vg_model.specs.Errors.{error_number}
 use Rattle.vg_model.specs.Journey.{end_of}
 use Rattle.vg_model.specs.Count.{is_drop, is_sent_on}
 use Rattle.vg_model.specs.PoolBook.{CacheBook}
 use Rattle.vg_pool.specs.Contents.{Contents, nothing}
 use Rattle.vg_frame.specs.Placed.{buffer_at, count, IsLive}
-use Rattle.vg_counters.specs.Tally.{IsSameSize, drops_at}
-use Rattle.vg_dispatch.specs.declared.work.Work.{Work}
+use Rattle.vg_dispatch.specs.declared.underway.Work.{Work}
 use Rattle.vg_dispatch.specs.Ended.{Ended, fate_of, sent_of}
 use Rattle.vg_dispatch.specs.SentEntries.{sent_by}
 use Rattle.vg_dispatch.specs.Underway.{Setting, Weights, owed, moved, move_owed, contents_at, live_at, waiting, in_hand, drawn_owed, counts_from}
 use Rattle.vg_dispatch.specs.Places.{same_one, times_waiting, times_in_hand}
-use Rattle.vg_dispatch.specs.Works.{total, IsHeld, HasRoom, IsSteady, Advances, Exchanges, TakesAll, sent_len, by_bytes, by_visits, visits_in_all}
+use Rattle.vg_dispatch.specs.Works.{total, IsHeld, HasRoom, Advances, Exchanges, TakesAll, sent_len, by_bytes, by_visits}
 use Rattle.vg_dispatch.proofs.SumLemmas.{sum_from_kept, sum_by_kept, sum_by_none, same_one_self, counts_from_none}
 
 -- what is live, and how often at most
-live_some : (o : Option Contents) → 0 < cond (is_some o) 1 0 → is_some o ≡ true
+pub live_some : (o : Option Contents) → 0 < cond (is_some o) 1 0 → is_some o ≡ true
 live_some None h = absurd (omega (arith, h))
 live_some (Some c) h = refl
 
 live_most : (o : Option Contents) → cond (is_some o) 1 0 ≤ 1
 live_most None = omega arith
 live_most (Some c) = omega arith
+
+-- what has a buffer is not nothing, and has legs
+pub none_live : (o : Option Contents) → o ≡ None → is_some o ≡ true → ⊥
+none_live None none live = cc
+none_live (Some c) none live = none-some c (sym none)
+
+abbrev pub HasLegs : Option Contents → Type 0
+HasLegs o = is_some o ≡ true → 1 ≤ length (unwrap_or o nothing).legs
 
 -- what is in hand has a buffer, and stands nowhere else
 pub live_in_hand : (s : Setting) (node : ℕ) (w : Work) (p : ℕ × Step) (rest : List (ℕ × Step)) → IsHeld s node w (p ∷ rest) → IsLive w.memory p.0

@@ -1,5 +1,5 @@
 -- How a worker draws packets of its capture.
-use Rattle.std.specs.Prelude.{◌≡◌, ℕ, ◌+◌, ◌*◌, ◌<◌, ◌≤◌, ◌^◌, List, [], ◌∷◌, ◌++◌, length, map, slice_index, slice_set, Option, None, Some, vec_len, vec_capacity}
+use Rattle.std.specs.Prelude.{◌≡◌, ℕ, ◌+◌, ◌*◌, ◌<◌, ◌≤◌, ◌^◌, List, [], ◌∷◌, ◌++◌, length, slice_index, slice_set, None, Some, vec_len, vec_capacity}
 use Rattle.std.specs.List.{sum_by, AllByRecursion}
 use Rattle.vg_model.specs.declared.kinds.DropError.TheVariants.{TooLong}
 use Rattle.vg_model.specs.declared.fates.Leg.{Leg}
@@ -10,15 +10,16 @@ use Rattle.vg_model.specs.Graph.{Graph, arc, pg_input}
 use Rattle.vg_model.specs.Leg.{first_slot}
 use Rattle.vg_model.specs.Valid.{AreBytes}
 use Rattle.vg_model.specs.PoolBook.{CacheBook}
-use Rattle.vg_pool.specs.Contents.{Contents}
 use Rattle.vg_pool.specs.Moves.{most_cached}
 use Rattle.vg_frame.specs.Pending.{pending_at, pending_count, most_pending, IsNothingPending}
-use Rattle.vg_frame.specs.Placed.{buffer_at, count, most_placed, Changes}
+use Rattle.vg_frame.specs.Placed.{buffer_at, count, most_placed, Changes, IsLive}
 use Rattle.vg_model.specs.Edit.{most_nodes, most_interfaces}
 use Rattle.vg_counters.specs.Tally.{Tally, IsWhole, more_at, drops_at}
-use Rattle.vg_dispatch.specs.declared.work.Work.{Work}
+use Rattle.vg_dispatch.specs.declared.underway.Work.{Work}
 use Rattle.vg_dispatch.specs.SentEntries.{AreWithin}
-use Rattle.vg_dispatch.specs.Underway.{Setting}
+use Rattle.vg_dispatch.specs.Underway.{Setting, contents_at}
+use Rattle.vg_counters.specs.Notes.{nodes_of, noted}
+use Rattle.vg_dispatch.specs.Traced.{IsNotes, IsTraced, all_visits, noted_end}
 use Rattle.vg_dispatch.specs.Works.{IsHeld, Advances, Exchanges, CanCount, counted_end}
 
 -- the counts with one visit of the packet source more
@@ -44,7 +45,11 @@ too_long number leg = record { number = number; legs = leg ∷ []; congested = N
 pub record DrawsLong (leg : Leg) (number : ℕ) (old new : Work) (old_cache new_cache : CacheBook) : Type 0 where
   pub fates : new.fates.items ≡ old.fates.items ++ too_long number leg ∷ []
   pub room : vec_capacity new.fates ≡ vec_capacity old.fates
-  pub rest : new ≡ record old { fates = new.fates; counts = counted_end (Dropped pg_input TooLong) (with_source old.counts) }
+  pub rest : new ≡ record old {
+    fates = new.fates;
+    counts = counted_end (Dropped pg_input TooLong) (with_source old.counts);
+    trace = noted_end number 0 (Dropped pg_input TooLong) (noted number 0 pg_input old.trace);
+  }
   pub cache : new_cache ≡ record old_cache { allocated = old_cache.allocated + 1; freed = old_cache.freed + 1 }
 
 -- any other is placed in a buffer, and waits for the node that the packet source leads to
@@ -59,6 +64,7 @@ pub record DrawsShort (g : Graph) (leg : Leg) (number : ℕ) (bytes : List ℕ) 
     memory = new.memory;
     pending = slice_set old.pending to (pending_at old.pending to ++ index ∷ []);
     counts = with_source old.counts;
+    trace = noted number 0 pg_input old.trace;
   }
   pub len : new_cache.len + 1 ≡ old_cache.len
   pub cache : new_cache ≡ record old_cache { len = new_cache.len; allocated = old_cache.allocated + 1 }
@@ -91,6 +97,8 @@ pub record IsReady (packets : List (ℕ × List ℕ)) (w : Work) (cache : CacheB
   pub buffers : (length packets ≤ cache.len) × (cache.len ≤ most_cached)
   pub allocated : cache.allocated < 2 ^ 61
   pub freed : cache.freed < 2 ^ 61
+  pub is_notes : IsNotes w.trace
+  pub unmet : AllByRecursion (λ (packet : ℕ × List ℕ). (leg : ℕ) → nodes_of packet.0 leg w.trace ≡ []) packets
 
 -- these packets were drawn
 pub record IsDrawn (s : Setting) (packets : List (ℕ × List ℕ)) (old : Work) (old_cache : CacheBook) (new : Work) (new_cache : CacheBook) : Type 0 where
@@ -98,3 +106,7 @@ pub record IsDrawn (s : Setting) (packets : List (ℕ × List ℕ)) (old : Work)
   pub advances : Advances s 0 packets old [] new []
   pub exchanges : Exchanges (length packets) old new old_cache new_cache
   pub sound : AllByRecursion (λ (packet : ℕ × List ℕ). AreBytes packet.1) packets
+  pub traced : IsTraced s (all_visits s old.trace packets) (length old.trace) 0 new []
+  -- those under way are among them
+  pub low : (most : ℕ) → AllByRecursion (λ (packet : ℕ × List ℕ). packet.0 < most) packets → (index : ℕ) → IsLive new.memory index
+      → (contents_at new.memory index).packet.number < most

@@ -4,6 +4,7 @@ pub mod Round
 pub mod SentEntries
 pub mod Underway
 pub mod Places
+pub mod Traced
 pub mod Works
 pub mod Draws
 pub mod Rest

@@ -1,9 +1,9 @@
 -- Packets on their way from node to node, and what is still to be counted for them.
-use Rattle.std.specs.Prelude.{◌≡◌, ℕ, suc, ◌+◌, ◌*◌, ◌<◌, ◌≤◌, ◌==◌, List, [], ◌∷◌, length, map, Option, None, Some, option_map, unwrap_or, is_some, if◌then◌else◌}
+use Rattle.std.specs.Prelude.{ℕ, suc, ◌+◌, ◌*◌, ◌≤◌, List, [], ◌∷◌, length, Option, None, Some, option_map, unwrap_or, is_some, if◌then◌else◌}
 use Rattle.std.specs.List.{sum_by}
 use Rattle.vg_model.specs.declared.fates.Leg.{Leg}
 use Rattle.vg_model.specs.declared.kinds.Step.{Step}
-use Rattle.vg_model.specs.Graph.{Graph, kind_at}
+use Rattle.vg_model.specs.Graph.{Graph}
 use Rattle.vg_model.specs.Packet.{fresh}
 use Rattle.vg_model.specs.Visit.{Visit}
 use Rattle.vg_model.specs.Valid.{IsValid, IsKindSet}

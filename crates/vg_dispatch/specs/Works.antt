@@ -1,5 +1,5 @@
 -- What a worker has under way and has kept, and how it changes while packets go from node to node.
-use Rattle.std.specs.Prelude.{◌≡◌, ℕ, ◌+◌, ◌*◌, ◌<◌, ◌≤◌, ◌^◌, ◌==◌, List, [], ◌∷◌, ◌++◌, length, map, slice_index, slice_index_or, None, vec_len, vec_capacity, if◌then◌else◌}
+use Rattle.std.specs.Prelude.{◌≡◌, ℕ, ◌+◌, ◌<◌, ◌≤◌, ◌^◌, ◌==◌, List, [], ◌∷◌, ◌++◌, length, map, slice_index, None, vec_len, vec_capacity, if◌then◌else◌}
 use Rattle.std.specs.Option.{option_to_list}
 use Rattle.std.specs.List.{AllByRecursion, sum_by, count_by, filter_map}
 use Rattle.vg_model.specs.declared.kinds.DropError.{DropError}
@@ -21,11 +21,12 @@ use Rattle.vg_frame.specs.Pending.{pending_at, pending_count, frame_size}
 use Rattle.vg_frame.specs.Placed.{count, Changes, IsLive}
 use Rattle.vg_counters.specs.Tally.{Tally, IsWhole, IsSameSize, more_at, drops_at, one_drop_more}
 use Rattle.vg_nodes.specs.declared.sorted.Sorted.{Sorted}
-use Rattle.vg_dispatch.specs.declared.work.Work.{Work}
+use Rattle.vg_dispatch.specs.declared.underway.Work.{Work}
 use Rattle.vg_dispatch.specs.Ended.{Ended, fate_of, sent_of}
 use Rattle.vg_dispatch.specs.SentEntries.{sent_by, AreWithin}
 use Rattle.vg_dispatch.specs.Underway.{Setting, Weights, counts_from, contents_at, live_at, waiting, in_hand, drawn_owed}
 use Rattle.vg_dispatch.specs.Places.{times_waiting, times_in_hand}
+use Rattle.vg_dispatch.specs.Traced.{leg_place, noted_end, StayTraced}
 
 -- what is counted with these ends, and what is still to be counted for the packets that wait
 unfoldable pub total : Setting → Weights → Work → List Ended → ℕ
@@ -70,6 +71,7 @@ pub record IsHeld (s : Setting) (node : ℕ) (w : Work) (hand : List (ℕ × Ste
   pub targets : (n : ℕ) → 0 < length (pending_at w.pending n) → IsTarget (kind_at s.graph n)
   pub steps : AllByRecursion (IsStepIn s node) hand
   pub sound : (index : ℕ) → AreContents (contents_at w.memory index)
+  pub legs : (index : ℕ) → IsLive w.memory index → 1 ≤ length (contents_at w.memory index).legs
   pub visits : length w.counts.visits ≡ most_nodes
   pub sends : length w.counts.sends ≡ most_interfaces
   pub whole : IsWhole w.counts
@@ -152,6 +154,7 @@ pub record IsPutAway (s : Setting) (node : ℕ) (old : Work) (old_cache : CacheB
   pub takes : TakesAll new new_cache
   pub advances : Advances s node [] old old_hand new new_hand
   pub exchanges : Exchanges 0 old new old_cache new_cache
+  pub traced : StayTraced s node old old_hand new new_hand
 
 -- the counts with one end more
 abbrev pub counted_end : End → Tally → Tally
@@ -179,6 +182,7 @@ ended_with end c = record { outcome = outcome_of end; contents = c }
 -- all that it takes to take the packet of this index out with its end
 pub record CanFinish (index : ℕ) (end : End) (w : Work) (cache : CacheBook) : Type 0 where
   pub live : IsLive w.memory index
+  pub legs : (1 ≤ length (contents_at w.memory index).legs) × (length (contents_at w.memory index).legs ≤ 4)
   pub fates : vec_len w.fates < vec_capacity w.fates
   pub entries : vec_len w.entries < vec_capacity w.entries
   pub bytes : vec_len w.bytes + sent_len (ended_with end (contents_at w.memory index)) ≤ vec_capacity w.bytes
@@ -200,3 +204,4 @@ pub record Finishes (index : ℕ) (end : End) (old new : Work) : Type 0 where
   pub room : (vec_capacity old.fates ≤ vec_capacity new.fates) × (vec_capacity old.entries ≤ vec_capacity new.entries) × (vec_capacity old.bytes ≤ vec_capacity new.bytes)
   pub within : AreWithin new.entries.items new.bytes.items
   pub counts : new.counts ≡ counted_end end old.counts
+  pub trace : new.trace ≡ noted_end (contents_at old.memory index).packet.number (leg_place (contents_at old.memory index)) end old.trace

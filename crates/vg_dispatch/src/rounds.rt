@@ -7,12 +7,12 @@ ghost use Rattle.vg_dispatch.specs.Round.{IsRound, drawn};
 
 use crate::options::Options;
 use crate::sent::SentList;
-use crate::work::Work;
+use crate::underway::Work;
 use std::alloc::Global;
 use std::marker::Model;
 use std::sync::ledger::Ledger;
 use vg_capture::{Capture, Captured};
-use vg_counters::Counters;
+use vg_counters::{Counters, Trace};
 use vg_fork::Fork;
 use vg_model::{Fates, Leg, Memory};
 use vg_nodes::{KindSet, Sorted};
@@ -45,6 +45,8 @@ pub struct CoreEnd {
     pub sent: SentList,
     /// Counts by node, error and interface.
     pub counts: Counters,
+    /// The nodes that the traced packets visited.
+    pub trace: Trace,
 }
 
 impl<K: KindSet> Model for Core<K> {
@@ -114,6 +116,7 @@ impl<K: KindSet> Core<K> {
         let Some(left) = total_bytes(&packets[first..]) else {
             return Err(Memory);
         };
+        let traced = options.trace.min(packets.len() as u32);
         Ok(Core {
             number,
             options: *options,
@@ -121,7 +124,7 @@ impl<K: KindSet> Core<K> {
             packets: packets.len() as u32,
             mark: u32::from(number),
             left,
-            work: Work::new(alloc, packets.len(), bytes)?,
+            work: Work::new(alloc, packets.len(), bytes, traced)?,
             sorted: Sorted::new(alloc)?,
         })
     }
@@ -137,7 +140,8 @@ impl<K: KindSet> Core<K> {
     /// frames until none is pending. It takes no memory.
     ///
     /// Each packet drawn is logged once, with the end of its own leg under the fork's generation, and its bytes are kept where
-    /// they were transmitted. Its buffer comes back to the cache.
+    /// they were transmitted. Its buffer comes back to the cache. Where its number is below the options' trace, the nodes that it
+    /// visits are noted.
     pub fn round<T: Ledger, G: Ledger>(
         &mut self,
         fork: &Fork,
@@ -184,6 +188,7 @@ impl<K: KindSet> Core<K> {
         ensures log { result.log ≡ self.log }
         ensures sent { result.sent ≡ self.sent }
         ensures counts { result.counts ≡ self.counts }
+        ensures trace { result.trace ≡ self.trace }
     {
         let Core {
             number: _,
@@ -202,11 +207,13 @@ impl<K: KindSet> Core<K> {
             entries,
             bytes,
             counts,
+            trace,
         } = work;
         CoreEnd {
             log: Fates::from_vec(fates),
             sent: SentList::new(entries, bytes),
             counts,
+            trace,
         }
     }
 }

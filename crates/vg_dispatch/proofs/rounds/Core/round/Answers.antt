@@ -1,15 +1,13 @@
-use Rattle.std.proofs.Common.{◌≡◌, ◌+◌, ◌-◌, ◌<◌, ◌≤◌, ◌^◌, ℕ, List, [], length, take, drop, refl, sym, ap, subst, ◌∙◌, arith}
-use Rattle.std.specs.Prelude.{vec_len}
+use Rattle.std.proofs.Common.{◌≡◌, ◌+◌, ◌-◌, ℕ, List, [], length, sym, ap, subst, ◌∙◌, arith}
 use Rattle.vg_model.specs.declared.fates.Leg.{Leg}
-use Rattle.vg_capture.specs.declared.captures.Captured.{Captured}
-use Rattle.vg_frame.specs.Placed.{count}
 use Rattle.vg_dispatch.specs.Progress.{Progress, captured_bytes, draws}
 use Rattle.vg_dispatch.specs.Round.{IsRound, drawn}
 use Rattle.vg_dispatch.specs.Underway.{Setting, IsSetting, alone}
+use Rattle.vg_dispatch.specs.Traced.{IsTraced, all_visits}
 use Rattle.vg_dispatch.specs.Works.{Advances}
-use Rattle.vg_dispatch.specs.Rest.{progress_of, numbered_from, IsAtRest}
+use Rattle.vg_dispatch.specs.Rest.{progress_of, numbered_from}
 use Rattle.vg_dispatch.proofs.DrawLemmas.{room_drawn}
-use Rattle.vg_dispatch.proofs.RestLemmas.{BeginsRound, begins_round, IsStretch, stretch_of, numbered_length, numbered_bytes, round_advances, rest_after, round_of, cache_after, takes_drawn, no_buffer_left}
+use Rattle.vg_dispatch.proofs.RestLemmas.{begins_round, stretch_of, numbered_below, numbered_length, numbered_bytes, round_advances, rest_after, round_of, cache_after, takes_drawn, no_buffer_left}
 use Rattle.vg_dispatch.proofs.rounds.Core.round.Goals as goal
 
 pub stretch-packets-requires : goal.stretch-packets-requires
@@ -91,11 +89,14 @@ invariant_of-self g c =
     let packets : List (ℕ × List ℕ) = numbered_from c.self.inside.mark c.stretch-packets.result.now in
     let all : Advances s 0 packets c.self.inside.work [] c.dispatch_all.new.self [] =
     round_advances s packets c.self.inside.work c.draw_all-bytes.new.self c.dispatch_all.new.self c.draw_all-bytes.ensures.drawn.advances c.dispatch_all.ensures.advances in
+    let traced : IsTraced s (all_visits s c.self.inside.work.trace packets) (length c.self.inside.work.trace) 0 c.dispatch_all.new.self [] =
+    c.dispatch_all.ensures.traced (all_visits s c.self.inside.work.trace packets) (length c.self.inside.work.trace) c.draw_all-bytes.ensures.drawn.traced in
     let same : c.draw_all-bytes.result ≡ captured_bytes c.stretch-packets.result.now = c.draw_all-bytes.ensures.bytes in (
       rest_after s c.self.inside.number c.self.inside.packets c.self.inside.mark c.self.inside.left c.min-count.result c.draw_all-bytes.result packets c.self.inside.work c.dispatch_all.new.self c.args.cache.now ok c.self.invariant.0
           stretch.ready (numbered_length c.self.inside.mark c.stretch-packets.result.now ∙ stretch.size) (numbered_bytes c.self.inside.mark c.stretch-packets.result.now ∙ sym same)
-          (let fits = stretch.fits in omega (arith, fits, same)) begins.room (let within = begins.within in let whole = begins.packets_are in omega (arith, within, whole)) c.draw_all-bytes.ensures.drawn.sound all
-          c.dispatch_all.ensures.steady.held c.dispatch_all.ensures.none,
+          (let fits = stretch.fits in omega (arith, fits, same)) begins.room (let within = begins.within in let whole = begins.packets_are in omega (arith, within, whole)) c.draw_all-bytes.ensures.drawn.sound
+          (numbered_below c.self.inside.mark (c.self.inside.mark + c.min-count.result) c.stretch-packets.result.now (let size = stretch.size in omega (arith, size))) all
+          c.dispatch_all.ensures.steady.held c.dispatch_all.ensures.none traced,
       c.dispatch_all.ensures.empty,
     )
 
@@ -111,6 +112,8 @@ returns g c =
     let packets : List (ℕ × List ℕ) = numbered_from c.self.inside.mark c.stretch-packets.result.now in
     let all : Advances s 0 packets c.self.inside.work [] c.dispatch_all.new.self [] =
     round_advances s packets c.self.inside.work c.draw_all-bytes.new.self c.dispatch_all.new.self c.draw_all-bytes.ensures.drawn.advances c.dispatch_all.ensures.advances in
+    let traced : IsTraced s (all_visits s c.self.inside.work.trace packets) (length c.self.inside.work.trace) 0 c.dispatch_all.new.self [] =
+    c.dispatch_all.ensures.traced (all_visits s c.self.inside.work.trace packets) (length c.self.inside.work.trace) c.draw_all-bytes.ensures.drawn.traced in
     let same : c.draw_all-bytes.result ≡ captured_bytes c.stretch-packets.result.now = c.draw_all-bytes.ensures.bytes in
     let k : ℕ = draws c.args.self.now c.args.limit c.args.cache.now.len in
     let so_many : k ≡ c.min-count.result = begins.draws_so_many in
@@ -119,7 +122,8 @@ returns g c =
     ap (numbered_from c.self.inside.mark) stretch.is ∙ ap (λ m. drawn m c.min-count.result c.args.capture.now.packets) mark ∙ ap (λ n. drawn c.args.self.now.mark n c.args.capture.now.packets) (sym so_many) in
     let after : Progress = progress_of c.self.inside.number c.self.inside.options c.self.inside.packets (c.self.inside.mark + c.min-count.result) (c.self.inside.left - c.draw_all-bytes.result) c.dispatch_all.new.self in
     let here = round_of g.K.KindSet.meaning c.args.fork.now.graph c.args.fork.now.generation c.self.inside.number c.self.inside.options c.self.inside.packets c.self.inside.mark c.self.inside.left
-    (c.self.inside.mark + c.min-count.result) (c.self.inside.left - c.draw_all-bytes.result) packets c.self.inside.work c.dispatch_all.new.self c.args.cache.now ok stretch.ready c.draw_all-bytes.ensures.drawn.sound all c.dispatch_all.ensures.none in
+    (c.self.inside.mark + c.min-count.result) (c.self.inside.left - c.draw_all-bytes.result) packets c.self.inside.work c.dispatch_all.new.self c.args.cache.now ok stretch.ready c.draw_all-bytes.ensures.drawn.sound all c.dispatch_all.ensures.steady.held c.dispatch_all.ensures.none
+    traced in
     record {
       round =
           subst (λ (ps : List (ℕ × List ℕ)). IsRound g.K.KindSet.meaning c.args.fork.now.graph c.args.fork.now.generation ps c.args.self.now after) which
