@@ -20,7 +20,7 @@ use Rattle.vg_model.specs.Edit.{Cause, Edited, ◌>>=◌, TooMany, DoubleName, U
 use Rattle.vg_script.specs.Events.{events}
 use Rattle.vg_plan.specs.Plan.{Planned, IsPlan}
 use Rattle.vg_plan.proofs.GenerationLemmas.{length_graphs, all_made}
-use Rattle.vg_engine.specs.Ends.{Grows, IsEndIn}
+use Rattle.vg_engine.specs.Ends.{Grows, IsEndIn, AreNodesOf}
 
 -- what an edit makes of the graph, where it makes one
 abbrev MayGrow : Graph → Edited → Type 0
@@ -163,10 +163,25 @@ end_stays : (one other : Graph) (end : End) → Grows one other → IsEndIn one 
 end_stays one other (ends.Tx interface) grows inside = let h = grows.interfaces in omega (arith, h, inside)
 end_stays one other (ends.Dropped node error) grows inside = let h = grows.nodes in omega (arith, h, inside)
 
+-- the graph of a generation grows to that of the last one
+grows_to_last : (plan : Planned) → IsPlan plan → (generation : ℕ) (one last : Graph) → slice_get plan.graphs generation ≡ Some one
+    → slice_get plan.graphs (length plan.graphs - 1) ≡ Some last → Grows one last
+grows_to_last plan is generation one last at end_at =
+    let within = slice_get_within plan.graphs generation one at in
+    let gap : generation + (length plan.graphs - 1 - generation) ≡ length plan.graphs - 1 = omega (arith, within) in
+    to_later plan is generation (length plan.graphs - 1 - generation) one last at (ap (slice_get plan.graphs) gap ∙ end_at)
+
+nodes_stay : (one other : Graph) (nodes : List ℕ) → Grows one other → AreNodesOf one nodes → AreNodesOf other nodes
+nodes_stay one other [] grows inside = tt
+nodes_stay one other (node ∷ nodes) grows inside =
+    ((let h = grows.nodes in let k = inside.0 in omega (arith, h, k)), nodes_stay one other nodes grows inside.1)
+
 -- an end in a generation's graph is in the last one's
 pub end_in_last : (plan : Planned) → IsPlan plan → (generation : ℕ) (one last : Graph) (end : End) → slice_get plan.graphs generation ≡ Some one
     → slice_get plan.graphs (length plan.graphs - 1) ≡ Some last → IsEndIn one end → IsEndIn last end
-end_in_last plan is generation one last end at end_at inside =
-    let within = slice_get_within plan.graphs generation one at in
-    let gap : generation + (length plan.graphs - 1 - generation) ≡ length plan.graphs - 1 = omega (arith, within) in
-    end_stays one last end (to_later plan is generation (length plan.graphs - 1 - generation) one last at (ap (slice_get plan.graphs) gap ∙ end_at)) inside
+end_in_last plan is generation one last end at end_at inside = end_stays one last end (grows_to_last plan is generation one last at end_at) inside
+
+-- and so are the nodes of a generation's graph
+pub nodes_in_last : (plan : Planned) → IsPlan plan → (generation : ℕ) (one last : Graph) (nodes : List ℕ) → slice_get plan.graphs generation ≡ Some one
+    → slice_get plan.graphs (length plan.graphs - 1) ≡ Some last → AreNodesOf one nodes → AreNodesOf last nodes
+nodes_in_last plan is generation one last nodes at end_at inside = nodes_stay one last nodes (grows_to_last plan is generation one last at end_at) inside

@@ -6,6 +6,7 @@ pub mod SameFates
 pub mod OrderLemmas
 pub mod WindowLemmas
 pub mod GrowthLemmas
+pub mod TraceLemmas
 pub mod StationLemmas
 pub mod TurnLemmas
 pub mod OutcomeLemmas

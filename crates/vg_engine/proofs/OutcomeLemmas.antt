@@ -1,7 +1,7 @@
 -- The outcome of a run.
-use Rattle.std.proofs.Common.{◌≡◌, ℕ, ◌-◌, ◌*◌, ◌<◌, ◌≤◌, List, [], ◌∷◌, length, map, refl, sym, ap, subst, ◌∙◌, arith, length-append}
-use Rattle.std.specs.Prelude.{Bool, true, false, Some, None, slice_get, nat_le, ◌==◌, if◌then◌else◌}
-use Rattle.std.specs.List.{AllByRecursion, flat_map, enumerate_from}
+use Rattle.std.proofs.Common.{◌≡◌, ℕ, ◌-◌, ◌*◌, ◌<◌, ◌≤◌, List, [], ◌∷◌, ◌++◌, length, map, refl, sym, ap, subst, ◌∙◌, arith, length-append}
+use Rattle.std.specs.Prelude.{Bool, true, false, Some, None, slice_get, nat_le, min, ◌==◌, if◌then◌else◌}
+use Rattle.std.specs.List.{AllByRecursion, flat_map, cons_option, enumerate_from}
 use Rattle.std.specs.List.Sorted.{IsPermutation, IsNonDecreasing, IsNonDecreasingBy}
 use Rattle.std.proofs.lemmas.List.{length-map}
 use Rattle.std.proofs.lemmas.List.FromFn.{length-enumerate_from}
@@ -13,19 +13,21 @@ use Rattle.vg_model.specs.declared.fates.Fate.{Fate}
 use Rattle.vg_model.specs.Graph.{Graph, error_drop}
 use Rattle.vg_model.specs.Visit.{Visit}
 use Rattle.vg_model.specs.Leg.{Outcome, Sent, Dropped, Handed}
-use Rattle.vg_model.specs.Journey.{Journey, end_of, journeys}
+use Rattle.vg_model.specs.Journey.{Journey, end_of, journeys, sent, sent_as, longest_packet}
 use Rattle.vg_model.specs.Count.{trace, drop_visit, is_drop, is_sent_on}
 use Rattle.vg_model.specs.Lawful.{StartsAt, IsRefusalLawful}
 use Rattle.vg_capture.specs.declared.captures.Capture.{Capture}
 use Rattle.vg_capture.specs.Time.{time}
 use Rattle.vg_script.specs.Events.{Event, events}
 use Rattle.vg_counters.specs.Tally.{Tally}
+use Rattle.vg_counters.specs.Notes.{IsMerged}
 use Rattle.vg_plan.specs.Plan.{Planned, IsPlan, first_generation}
 use Rattle.vg_plan.proofs.GenerationLemmas.{length_graphs}
 use Rattle.vg_dispatch.specs.declared.options.Options.{Options}
+use Rattle.vg_dispatch.specs.Ended.{counted_visits}
 use Rattle.vg_dispatch.specs.Progress.{Progress}
 use Rattle.vg_engine.specs.declared.runs.Outcome as code
-use Rattle.vg_engine.specs.Ends.{IsEndIn, IsOutcomeIn}
+use Rattle.vg_engine.specs.Ends.{IsEndIn, IsOutcomeIn, IsShort, AreNodesOf}
 use Rattle.vg_engine.specs.Journeys.{frames, choices_of, leg_under, journey_by, IsOneLeg, AreOneLeg}
 use Rattle.vg_engine.specs.SoFar.{AreCounts, IsSoFar}
 use Rattle.vg_engine.specs.Stations.{IsAt}
@@ -35,7 +37,9 @@ use Rattle.vg_engine.proofs.SortLemmas.{NeverFall, never_fall_from}
 use Rattle.vg_engine.proofs.JourneyLemmas.{AreNumbered, journeys_are}
 use Rattle.vg_engine.proofs.OrderLemmas.{fates_are, sent_are}
 use Rattle.vg_engine.proofs.WindowLemmas.{drawn_all, enumerate_numbered, enumerate_values}
-use Rattle.vg_engine.proofs.GrowthLemmas.{end_in_last}
+use Rattle.vg_engine.proofs.RoundLemmas.{same_drop_visits}
+use Rattle.vg_engine.proofs.TraceLemmas.{traces_are}
+use Rattle.vg_engine.proofs.GrowthLemmas.{end_in_last, nodes_in_last}
 
 -- what holds of each such journey
 each_leg : (visit : Visit) (graphs : List Graph) (first : ℕ → ℕ) (P : Journey → Type 0) → ((packet : ℕ × List ℕ) (j : Journey) → IsOneLeg visit graphs first packet j → P j)
@@ -82,6 +86,28 @@ ends_in_last : (visit : Visit) (plan : Planned) (first : ℕ → ℕ) (last : Gr
 ends_in_last visit plan first last is at packet j one =
     subst (λ (j : Journey). IsEndIn last (end_of j.course.outcome)) (sym one.is)
     (end_in_last plan is (first packet.0) one.graph last (end_of one.way.outcome) one.is_graph at (outcome_end one.graph one.way.outcome one.inside))
+
+-- such a journey visits nodes of the last graph
+visits_in_last : (visit : Visit) (plan : Planned) (first : ℕ → ℕ) (last : Graph) → IsPlan plan → slice_get plan.graphs (length plan.graphs - 1) ≡ Some last
+    → (packet : ℕ × List ℕ) (j : Journey) → IsOneLeg visit plan.graphs first packet j → AreNodesOf last (trace j)
+visits_in_last visit plan first last is at packet j one =
+    let same : counted_visits one.way ≡ trace j = ap (λ vs. one.way.visits ++ vs) (same_drop_visits one.way.outcome one.stays) ∙ ap trace (sym one.is) in
+    subst (AreNodesOf last) same (nodes_in_last plan is (first packet.0) one.graph last (counted_visits one.way) one.is_graph at one.passes)
+
+-- what such journeys send fits a buffer
+short_leg : (visit : Visit) (graphs : List Graph) (first : ℕ → ℕ) (packet : ℕ × List ℕ) (j : Journey) → IsOneLeg visit graphs first packet j
+    → IsShort j.course.outcome j.course.packet.bytes
+short_leg visit graphs first packet j one = subst (λ (j : Journey). IsShort j.course.outcome j.course.packet.bytes) (sym one.is) one.short
+
+short_behind : (number : ℕ) (bytes : List ℕ) (outcome : Outcome) (behind : List (ℕ × List ℕ)) → IsShort outcome bytes → AllByRecursion (λ (s : ℕ × List ℕ). length s.1 ≤ longest_packet) behind
+    → AllByRecursion (λ (s : ℕ × List ℕ). length s.1 ≤ longest_packet) (cons_option (sent_as number bytes outcome) behind)
+short_behind number bytes (Sent interface) behind short rest = (short, rest)
+short_behind number bytes (Dropped node error) behind short rest = rest
+short_behind number bytes (Handed node worker) behind short rest = rest
+
+short_sent : (js : List Journey) → AllByRecursion (λ j. IsShort j.course.outcome j.course.packet.bytes) js → AllByRecursion (λ (s : ℕ × List ℕ). length s.1 ≤ longest_packet) (sent js)
+short_sent [] short = tt
+short_sent (j ∷ js) short = short_behind j.number j.course.packet.bytes j.course.outcome (sent js) short.0 (short_sent js short.1)
 
 -- a trace has few nodes
 few_drop_visits : (end : End) → length (drop_visit end) ≤ 1
@@ -138,16 +164,22 @@ pub outcome_is : (visit : Visit) (plan : Planned) (capture : Capture) (options :
     → IsAt visit plan capture options (length plan.graphs) p
     → IsPermutation p.log outcome.fates → IsNonDecreasingBy (λ (f : Fate). f.number) outcome.fates
     → IsPermutation p.sent outcome.sent → IsNonDecreasing (map (λ (s : ℕ × List ℕ). s.0) outcome.sent)
-    → outcome.counts ≡ p.counts → outcome.buffers ≡ options.buffers → IsLastGraph plan.graphs outcome.last
+    → outcome.counts ≡ p.counts → IsMerged (p.trace ∷ []) outcome.trace → outcome.buffers ≡ options.buffers → IsLastGraph plan.graphs outcome.last
     → IsOutcome visit plan.graphs (first_generation plan.script capture) capture options outcome
-outcome_is visit plan capture options p outcome is few at fates_moved fates_up sent_moved sent_up counts buffers last =
+outcome_is visit plan capture options p outcome is few at fates_moved fates_up sent_moved sent_up counts merged buffers last =
     let first : ℕ → ℕ = first_generation plan.script capture in
     let packets : List (ℕ × List ℕ) = enumerate_from 0 (frames capture.packets) in
     let so_far : IsSoFar visit plan.graphs first packets p =
     subst (λ ps. IsSoFar visit plan.graphs first ps p) (drawn_all p.mark capture.packets (all_drawn visit plan capture options p is at)) at.so_far in
     let js : List Journey = so_far.js in
     let numbered : AreNumbered 0 packets = enumerate_numbered 0 (frames capture.packets) in
-    let many : length js ≤ 65536 = omega (arith, as_many visit plan.graphs first packets js so_far.legs, length-enumerate_from 0 (frames capture.packets), length-map capture.packets (λ p. p.bytes), few) in
+    let all : length js ≡ length capture.packets =
+    omega (arith, as_many visit plan.graphs first packets js so_far.legs, length-enumerate_from 0 (frames capture.packets), length-map capture.packets (λ p. p.bytes)) in
+    let many : length js ≤ 65536 = omega (arith, all, few) in
+    let are_sent : outcome.sent ≡ sent js =
+    sent_are visit plan.graphs first packets p so_far outcome.sent numbered sent_moved
+    (never_fall_map (λ (s : ℕ × List ℕ). s.0) 0 outcome.sent
+    (never_fall_from (λ n. n) 0 (map (λ (s : ℕ × List ℕ). s.0) outcome.sent) (each_at_least (λ n. n) (map (λ (s : ℕ × List ℕ). s.0) outcome.sent)) sent_up)) in
     let tally : AreCounts js outcome.counts = subst (AreCounts js) (sym counts) so_far.counts in
     record {
       js = js;
@@ -166,10 +198,10 @@ outcome_is visit plan capture options p outcome is few at fates_moved fates_up s
       are_fates =
           fates_are visit plan.graphs first packets p so_far outcome.fates numbered fates_moved
           (never_fall_from (λ (f : Fate). f.number) 0 outcome.fates (each_at_least (λ (f : Fate). f.number) outcome.fates) fates_up);
-      are_sent =
-          sent_are visit plan.graphs first packets p so_far outcome.sent numbered sent_moved
-          (never_fall_map (λ (s : ℕ × List ℕ). s.0) 0 outcome.sent
-          (never_fall_from (λ n. n) 0 (map (λ (s : ℕ × List ℕ). s.0) outcome.sent) (each_at_least (λ n. n) (map (λ (s : ℕ × List ℕ). s.0) outcome.sent)) sent_up));
+      are_sent = are_sent;
+      short =
+          subst (AllByRecursion (λ (s : ℕ × List ℕ). length s.1 ≤ longest_packet)) (sym are_sent)
+          (short_sent js (each_leg visit plan.graphs first (λ j. IsShort j.course.outcome j.course.packet.bytes) (short_leg visit plan.graphs first) packets js so_far.legs));
       counts = tally;
       whole = record {
         nodes = ap (λ (t : Tally). length t.visits) counts ∙ at.nodes;
@@ -188,9 +220,12 @@ outcome_is visit plan capture options p outcome is few at fates_moved fates_up s
             let within = count_by-le-length (λ j. is_sent_on interface (end_of j.course.outcome)) js in
             omega (arith, same, within, many);
       };
+      traces =
+          traces_are visit plan.graphs first packets js options.trace p.trace outcome.trace numbered so_far.legs (at.traced ∙ ap (min options.trace) (sym all)) so_far.notes merged;
       buffers = buffers;
       last = last.whole;
       is_last = record { is = last.is };
       last_is = last.parts;
       ends = each_leg visit plan.graphs first (λ j. IsEndIn last.whole (end_of j.course.outcome)) (ends_in_last visit plan first last.whole is last.is) packets js so_far.legs;
+      visits = each_leg visit plan.graphs first (λ j. AreNodesOf last.whole (trace j)) (visits_in_last visit plan first last.whole is last.is) packets js so_far.legs;
     }

@@ -12,7 +12,7 @@ use Rattle.vg_dispatch.specs.declared.options.Options.{Options}
 use Rattle.vg_dispatch.specs.Progress.{Progress, IsOwnCapture, draws}
 use Rattle.vg_dispatch.specs.Round.{IsRound, drawn}
 use Rattle.vg_engine.specs.SoFar.{IsSoFar}
-use Rattle.vg_engine.specs.Stations.{AreCaptured, IsAt, AreBack}
+use Rattle.vg_engine.specs.Stations.{IsAt, AreBack}
 use Rattle.vg_engine.proofs.RoundLemmas.{so_far_more}
 use Rattle.vg_engine.proofs.WindowLemmas.{IsWindow, limit_is_window, drawn_under, drawn_more}
 
@@ -22,18 +22,18 @@ draws_within p limit buffers h = let n = p.options.burst in omega arith
 
 -- a round draws packets of this generation alone
 pub round_at : (visit : Visit) (plan : Planned) (capture : Capture) (options : Options) (generation limit buffers : ℕ) (g : Graph) (old new : Progress)
-    → IsKindSet visit → IsGeneration g → slice_get plan.graphs generation ≡ Some g → limit ≡ limit_of plan.script capture generation → AreCaptured capture.packets
+    → IsKindSet visit → IsGeneration g → slice_get plan.graphs generation ≡ Some g → limit ≡ limit_of plan.script capture generation
     → IsAt visit plan capture options generation old → old.mark < limit
     → IsRound visit g generation (drawn old.mark (draws old limit buffers) capture.packets) old new → new.mark ≡ old.mark + draws old limit buffers
     → IsOwnCapture capture new → new.number ≡ old.number → new.options ≡ old.options
     → IsAt visit plan capture options generation new
-round_at visit plan capture options generation limit buffers g old new kinds sound here is bytes at below round mark own number same =
+round_at visit plan capture options generation limit buffers g old new kinds sound here is at below round mark own number same =
     let window : IsWindow (first_generation plan.script capture) generation 0 limit (length capture.packets) =
     subst (λ n. IsWindow (first_generation plan.script capture) generation 0 n (length capture.packets)) (sym is) (limit_is_window plan.script capture generation) in
     let count : ℕ = draws old limit buffers in
     let few : old.mark + count ≤ limit = draws_within old limit buffers (omega (arith, below)) in
     let inside = window.within in
-    let under = drawn_under (first_generation plan.script capture) generation limit old.mark count capture.packets bytes window at.low few in
+    let under = drawn_under (first_generation plan.script capture) generation limit old.mark count capture.packets window at.low few in
     let more = so_far_more visit plan.graphs (first_generation plan.script capture) g generation (drawn 0 old.mark capture.packets) (drawn old.mark count capture.packets) old new
     kinds sound here under at.so_far round in
     let parts = drawn_more old.mark count capture.packets at.within in
@@ -48,6 +48,7 @@ round_at visit plan capture options generation limit buffers g old new kinds sou
       low = λ i h k. at.low i (omega (arith, mark, h)) k;
       nodes = round.size.nodes ∙ at.nodes;
       interfaces = round.size.interfaces ∙ at.interfaces;
+      traced = round.traced ∙ at.traced;
     }
 
 -- where the mark is at the limit, no packet is left that begins before the next generation
@@ -64,6 +65,7 @@ next_at visit plan capture options generation limit p is done at =
       low = λ i h k. (let late : generation < first_generation plan.script capture i = subst (λ n. generation < first_generation plan.script capture n) (zero-add i) (window.late i (omega (arith, is, done, h)) k) in omega (arith, late));
       nodes = at.nodes;
       interfaces = at.interfaces;
+      traced = at.traced;
     }
 
 -- a limit is at most the number of packets

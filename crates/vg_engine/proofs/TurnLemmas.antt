@@ -1,6 +1,6 @@
 -- From one generation to the next, and the start and the end of all of them.
 use Rattle.std.proofs.Common.{◌≡◌, ℕ, zero, suc, ◌+◌, ◌-◌, ◌<◌, List, [], ◌∷◌, length, map, drop, get_or, refl, sym, ap, subst, ◌∙◌, arith, zero-add}
-use Rattle.std.specs.Prelude.{Some, Result, Ok, Err, IfOk, option_map, slice_get, replicate}
+use Rattle.std.specs.Prelude.{Some, Result, Ok, Err, IfOk, option_map, slice_get, replicate, min}
 use Rattle.std.specs.List.{enumerate_from}
 use Rattle.std.proofs.lemmas.List.{length-map}
 use Rattle.std.proofs.lemmas.List.FromFn.{length-enumerate_from}
@@ -18,8 +18,9 @@ use Rattle.vg_plan.proofs.GenerationLemmas.{length_graphs, all_made}
 use Rattle.vg_dispatch.specs.declared.options.Options.{Options}
 use Rattle.vg_dispatch.specs.Progress.{begun}
 use Rattle.vg_engine.specs.Stations.{IsAt}
-use Rattle.vg_engine.specs.Turns.{MakesNext, IsBehind, IsLastGraph}
+use Rattle.vg_engine.specs.Turns.{MakesNext, CanMakeNext, IsBehind, IsLastGraph}
 use Rattle.vg_engine.proofs.RoundLemmas.{so_far_none}
+use Rattle.vg_engine.proofs.TraceLemmas.{nothing_length, nothing_of}
 
 -- nothing is counted at first
 abbrev zeros : ℕ → List ℕ
@@ -44,10 +45,12 @@ begun_at visit plan capture options = record {
   within = omega arith;
   so_far =
       so_far_none visit plan.graphs (first_generation plan.script capture) (begun 0 options capture) refl refl
-      (record { visits = none_in 64; drops = λ node error. no_drops 64 19 node (error_number error); sends = none_in 16 });
+      (record { visits = none_in 64; drops = λ node error. no_drops 64 19 node (error_number error); sends = none_in 16 })
+      (nothing_of (min options.trace (length capture.packets)));
   low = λ i h k. omega arith;
   nodes = refl;
   interfaces = refl;
+  traced = nothing_length (min options.trace (length capture.packets));
 }
 
 -- the generations with something of their numbers
@@ -74,17 +77,24 @@ book_length plan capture book is =
     let pairs : ℕ × Graph → Graph × ℕ = λ g. (g.1, limit_of plan.script capture g.0) in
     ap length is ∙ length-map (enumerate_from 0 plan.graphs) pairs ∙ length-enumerate_from 0 plan.graphs
 
-some_left : {X : Type 0} (past : ℕ) (xs : List X) → past < length xs → 0 < length (drop past xs)
+some_left : {X : Type 0} (past : ℕ) (xs : List X) → past < length xs → (x : X) × (rest : List X) × (slice_get xs past ≡ Some x) × (drop past xs ≡ x ∷ rest)
 some_left past [] h = absurd (let k : past < 0 = h in omega (arith, k))
-some_left zero (x ∷ xs) h = omega arith
+some_left zero (x ∷ xs) h = (x, xs, refl, refl)
 some_left (suc past) (x ∷ xs) h = some_left past xs (omega (arith, h))
 
--- before the last generation an event is left
-pub event_left : (plan : Planned) (generation : ℕ) (left : List Event) (g : Graph) → IsPlan plan → IsBehind plan generation left g → generation < length plan.graphs → 0 < length left
-event_left plan generation left g is behind h =
+-- before the last generation an event is left, and its edits can be made
+pub can_make_next : (plan : Planned) (generation : ℕ) (left : List Event) (before : Graph) → IsPlan plan → IsBehind plan generation left before → generation < length plan.graphs
+    → CanMakeNext left before
+can_make_next plan generation left before is behind h =
     let count = length_graphs plan is in
     let next = behind.next in
-    subst (λ es. 0 < length es) (sym behind.left) (some_left behind.past (events plan.script) (omega (arith, count, next, h)))
+    let first = some_left behind.past (events plan.script) (omega (arith, count, next, h)) in
+    let step = all_made plan is behind.past first.0 first.2 in
+    let same : step.0 ≡ before = same_Some step.0 before (sym step.2 ∙ behind.graph) in (
+      first.1,
+      step.1,
+      record { event = first.0; first = behind.left ∙ first.3; made = subst (λ g. apply_all g first.0.edits ≡ Ok step.1) same step.4 },
+    )
 
 drop_first : {X : Type 0} (past : ℕ) (xs : List X) (x : X) (rest : List X) → drop past xs ≡ x ∷ rest → (slice_get xs past ≡ Some x) × (drop (past + 1) xs ≡ rest)
 drop_first zero [] x rest e = cc

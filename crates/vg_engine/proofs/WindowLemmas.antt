@@ -1,12 +1,11 @@
 -- Which packets a generation draws, and the lists of packets drawn.
 use Rattle.std.proofs.Common.{◌≡◌, ℕ, zero, suc, ◌+◌, ◌<◌, ◌≤◌, Bool, true, false, List, [], ◌∷◌, ◌++◌, map, length, take, drop, cond, refl, ap, subst, ◌∙◌, arith, add-one, zero-add}
 use Rattle.std.specs.Prelude.{nat_le}
-use Rattle.std.specs.List.{AllByRecursion, count_by, enumerate_from}
+use Rattle.std.specs.List.{count_by, enumerate_from}
 use Rattle.std.proofs.lemmas.Bool.{le-leb, leb-true, leb-false}
 use Rattle.std.proofs.lemmas.List.Sums.{sum_by-cons}
 use Rattle.std.proofs.lemmas.List.{length-take, length-take-le, take_all, length-map, map-append}
 use Rattle.std.proofs.Math.Seq.{take-add}
-use Rattle.vg_model.specs.Valid.{AreBytes}
 use Rattle.vg_capture.specs.declared.captures.Capture.{Capture}
 use Rattle.vg_capture.specs.declared.captures.Captured.{Captured}
 use Rattle.vg_capture.specs.Time.{time}
@@ -120,33 +119,23 @@ pub limit_is_window : (script : Script) (capture : Capture) (generation : ℕ)
 limit_is_window script capture generation = window_is (first_generation script capture) (first_never_falls script capture) generation 0 capture.packets
 
 -- packets from this number on meet this generation first
-under_enumerate : (first : ℕ → ℕ) (generation number : ℕ) (xs : List (List ℕ)) → AllByRecursion AreBytes xs → ((i : ℕ) → i < length xs → first (number + i) ≡ generation)
+under_enumerate : (first : ℕ → ℕ) (generation number : ℕ) (xs : List (List ℕ)) → ((i : ℕ) → i < length xs → first (number + i) ≡ generation)
     → AreUnder first generation (enumerate_from number xs)
-under_enumerate first generation number [] bytes each = tt
-under_enumerate first generation number (x ∷ xs) bytes each = (
-  (bytes.0, subst (λ n. first n ≡ generation) (let e : number + 0 ≡ number = omega arith in e) (each 0 (omega arith))),
-  under_enumerate first generation (number + 1) xs bytes.1
+under_enumerate first generation number [] each = tt
+under_enumerate first generation number (x ∷ xs) each = (
+  subst (λ n. first n ≡ generation) (let e : number + 0 ≡ number = omega arith in e) (each 0 (omega arith)),
+  under_enumerate first generation (number + 1) xs
       (λ i h. subst (λ n. first n ≡ generation) (let e : number + suc i ≡ number + 1 + i = omega arith in e) (each (suc i) (omega (arith, h)))),
 )
-
--- what holds of each packet holds of the bytes of those between two places
-bytes_between : (mark count : ℕ) (packets : List Captured) → AllByRecursion (λ p. AreBytes p.bytes) packets → AllByRecursion AreBytes (map (λ (p : Captured). p.bytes) (take count (drop mark packets)))
-bytes_between zero zero packets all = tt
-bytes_between zero (suc count) [] all = tt
-bytes_between zero (suc count) (p ∷ packets) all = (all.0, bytes_between zero count packets all.1)
-bytes_between (suc mark) zero [] all = tt
-bytes_between (suc mark) (suc count) [] all = tt
-bytes_between (suc mark) count (p ∷ packets) all = bytes_between mark count packets all.1
 
 length_between : (mark count : ℕ) (packets : List Captured) → length (map (λ (p : Captured). p.bytes) (take count (drop mark packets))) ≤ count
 length_between mark count packets = omega (arith, length-map (take count (drop mark packets)) (λ (p : Captured). p.bytes), length-take count (drop mark packets))
 
 -- the packets drawn under a generation, behind those of earlier ones
-pub drawn_under : (first : ℕ → ℕ) (generation limit mark count : ℕ) (packets : List Captured) → AllByRecursion (λ p. AreBytes p.bytes) packets
-    → IsWindow first generation 0 limit (length packets) → ((i : ℕ) → mark ≤ i → i < length packets → generation ≤ first i) → mark + count ≤ limit
+pub drawn_under : (first : ℕ → ℕ) (generation limit mark count : ℕ) (packets : List Captured) → IsWindow first generation 0 limit (length packets) → ((i : ℕ) → mark ≤ i → i < length packets → generation ≤ first i) → mark + count ≤ limit
     → AreUnder first generation (drawn mark count packets)
-drawn_under first generation limit mark count packets bytes window low h =
-    under_enumerate first generation mark (map (λ (p : Captured). p.bytes) (take count (drop mark packets))) (bytes_between mark count packets bytes)
+drawn_under first generation limit mark count packets window low h =
+    under_enumerate first generation mark (map (λ (p : Captured). p.bytes) (take count (drop mark packets)))
     (λ i k.
     let few = length_between mark count packets in
     let inside = window.within in

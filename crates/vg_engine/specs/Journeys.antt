@@ -7,8 +7,9 @@ use Rattle.vg_model.specs.Visit.{Visit}
 use Rattle.vg_model.specs.Leg.{Way}
 use Rattle.vg_model.specs.Journey.{Journey, Choice, last_leg}
 use Rattle.vg_capture.specs.declared.captures.Captured.{Captured}
+use Rattle.vg_dispatch.specs.Ended.{counted_visits}
 use Rattle.vg_dispatch.specs.Round.{own_leg, StaysHere}
-use Rattle.vg_engine.specs.Ends.{IsOutcomeIn}
+use Rattle.vg_engine.specs.Ends.{IsOutcomeIn, IsShort, AreNodesOf}
 
 -- the bytes of packets
 abbrev pub frames : List Captured → List (List ℕ)
@@ -41,6 +42,10 @@ pub record IsOneLeg (visit : Visit) (graphs : List Graph) (first : ℕ → ℕ) 
   pub number : way.packet.number ≡ packet.0
   pub inside : IsOutcomeIn graph way.outcome
   pub few : length way.visits ≤ most_nodes + 1
+  -- where it is sent, it fits a buffer
+  pub short : IsShort way.outcome way.packet.bytes
+  -- it visits nodes of the graph, also with the visit of `error-drop` that its end brings
+  pub passes : AreNodesOf graph (counted_visits way)
   pub is : j ≡ journey_by packet.0 (first packet.0) way
 
 -- so each packet, in order

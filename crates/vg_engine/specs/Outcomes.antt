@@ -1,13 +1,14 @@
 -- What a run on one worker comes to.
-use Rattle.std.specs.Prelude.{◌≡◌, ℕ, ◌-◌, ◌<◌, ◌^◌, List, [], ◌∷◌, length, slice_index, slice_get, Some, None}
+use Rattle.std.specs.Prelude.{◌≡◌, ℕ, ◌-◌, ◌<◌, ◌≤◌, ◌^◌, List, [], ◌∷◌, length, map, take, slice_index, slice_get, Some, None}
 use Rattle.std.specs.List.{AllByRecursion, enumerate_from}
 use Rattle.vg_model.specs.declared.kinds.DropError.{DropError}
 use Rattle.vg_model.specs.Errors.{error_number}
 use Rattle.vg_model.specs.Edit.{most_nodes, most_interfaces}
 use Rattle.vg_model.specs.Graph.{Graph}
 use Rattle.vg_model.specs.Visit.{Visit}
-use Rattle.vg_model.specs.Journey.{Journey, fates, sent, end_of}
+use Rattle.vg_model.specs.Journey.{Journey, fates, sent, end_of, longest_packet}
 use Rattle.vg_model.specs.Lawful.{AreLawfulChoices}
+use Rattle.vg_model.specs.Count.{trace}
 use Rattle.vg_capture.specs.declared.captures.Capture.{Capture}
 use Rattle.vg_counters.specs.Tally.{Tally, drops_at}
 use Rattle.vg_dispatch.specs.declared.options.Options.{Options}
@@ -38,9 +39,13 @@ pub record IsOutcome (visit : Visit) (graphs : List Graph) (first : ℕ → ℕ)
   -- the fates by number, and the packets sent by number
   pub are_fates : outcome.fates ≡ fates js
   pub are_sent : outcome.sent ≡ sent js
+  -- no packet that is sent is longer than a buffer
+  pub short : AllByRecursion (λ (sent : ℕ × List ℕ). length sent.1 ≤ longest_packet) outcome.sent
   -- the counts are those of the journeys
   pub counts : AreCounts js outcome.counts
   pub whole : AreWholeCounts outcome.counts
+  -- the traces are those of the first packets, by number
+  pub traces : outcome.trace ≡ map trace (take options.trace js)
   -- every buffer is back
   pub buffers : outcome.buffers ≡ options.buffers
   -- the graph of the last generation, in which each packet ends
@@ -48,3 +53,5 @@ pub record IsOutcome (visit : Visit) (graphs : List Graph) (first : ℕ → ℕ)
   pub is_last : IsLast graphs last
   pub last_is : with_routes outcome.last last.routes ≡ last
   pub ends : AllByRecursion (λ j. IsEndIn last (end_of j.course.outcome)) js
+  -- no packet visits a node that it hasn't
+  pub visits : AllByRecursion (λ j. AllByRecursion (λ node. node < length last.nodes) (trace j)) js

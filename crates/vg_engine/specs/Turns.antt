@@ -12,6 +12,10 @@ pub record MakesNext (left : List Event) (before : Graph) (rest : List Event) (a
   pub first : left ≡ event ∷ rest
   pub made : apply_all before event.edits ≡ Ok after
 
+-- an event is left, and the edits of the first one can be made
+abbrev pub CanMakeNext : List Event → Graph → Type 0
+CanMakeNext left before = (rest : List Event) × (after : Graph) × MakesNext left before rest after
+
 -- the graph is that of the generation before this one, whose event is the first of those left
 pub record IsBehind (plan : Planned) (generation : ℕ) (events_left : List Event) (g : Graph) : Type 0 where
   pub past : ℕ

@@ -4,10 +4,12 @@
 //! through the graph, and then the edits of the next event are made.
 #![tactic(auto)]
 
-mod bytes;
 mod events;
 pub mod runs;
 mod stations;
+#[cfg(test)]
+mod tests;
+mod traces;
 
 pub use runs::{Input, Outcome, run_one};
 pub use vg_dispatch::Options;

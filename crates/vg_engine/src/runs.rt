@@ -6,11 +6,12 @@ ghost use Rattle.vg_dispatch.specs.Progress.{AreInRange};
 ghost use Rattle.vg_engine.specs.Outcomes.{IsOutcome};
 
 use crate::stations::Station;
+use crate::traces::of_one_worker;
 use std::alloc::Global;
 use std::marker::Brand;
 use std::sync::ledger::{Blank, Ledger};
 use vg_capture::Capture;
-use vg_counters::Counters;
+use vg_counters::{Counters, TraceLists};
 use vg_dispatch::{CoreEnd, Options, SentList};
 use vg_graph::Graph;
 use vg_model::{Fates, Memory};
@@ -35,6 +36,9 @@ pub struct Outcome {
     pub sent: SentList,
     /// Counts by node, error and interface, for as many of them as a graph may have.
     pub counts: Counters,
+    /// The nodes that each of the first packets visited, by number: as many packets as the options say, or all where there are
+    /// fewer.
+    pub trace: TraceLists,
     /// How many buffers are in the pool at the end.
     pub buffers: u32,
     /// The graph of the last generation, without its routes.
@@ -74,12 +78,15 @@ fn run_counted<K: KindSet, T: PoolLedger, G: Ledger>(
         log,
         mut sent,
         counts,
+        trace,
     } = kept;
     sent.sort();
+    let trace = of_one_worker(alloc, trace)?;
     Ok(Outcome {
         fates: by_number(log),
         sent,
         counts,
+        trace,
         buffers,
         last,
     })

@@ -2,10 +2,9 @@
 ghost use Rattle.std.specs.Prelude.{◌≡◌, ◌+◌, ◌≤◌, Some, IfOk, OnOk, length, slice_get};
 ghost use Rattle.vg_plan.specs.Plan.{IsPlan, IsGeneration, limit_of};
 ghost use Rattle.vg_dispatch.specs.Progress.{AreInRange};
-ghost use Rattle.vg_engine.specs.Stations.{AreCaptured, IsAt, AreBack};
+ghost use Rattle.vg_engine.specs.Stations.{IsAt, AreBack};
 ghost use Rattle.vg_engine.specs.Turns.{IsLastGraph};
 
-use crate::bytes::know_packets;
 use crate::events::make_next;
 use crate::runs::Input;
 use std::alloc::Global;
@@ -71,7 +70,6 @@ impl<K: KindSet, T: PoolLedger, G: Ledger> Station<K, T, G> {
         requires graph { slice_get input.now.plan.now.graphs fork.now.generation ≡ Some fork.now.graph }
         requires sound { IsGeneration fork.now.graph }
         requires limit { limit ≡ limit_of input.now.plan.now.script input.now.capture.now fork.now.generation }
-        requires bytes { AreCaptured input.now.capture.now.packets }
         requires at { IsAt K.meaning input.now.plan.now input.now.capture.now input.now.options.now fork.now.generation self.old.core }
         requires back { AreBack input.now.options.now self.old.core.mark self.old.pool self.old.cache }
         ensures at { IsAt K.meaning input.now.plan.now input.now.capture.now input.now.options.now (fork.now.generation + 1) self.new.core }
@@ -99,7 +97,6 @@ impl<K: KindSet, T: PoolLedger, G: Ledger> Station<K, T, G> {
         requires options { AreInRange input.now.options.now }
         requires graph { slice_get input.now.plan.now.graphs generation ≡ Some master.now }
         requires limit { limit ≡ limit_of input.now.plan.now.script input.now.capture.now generation }
-        requires bytes { AreCaptured input.now.capture.now.packets }
         requires at { IsAt K.meaning input.now.plan.now input.now.capture.now input.now.options.now generation self.old.core }
         requires back { AreBack input.now.options.now self.old.core.mark self.old.pool self.old.cache }
         ensures at { OnOk result (IsAt K.meaning input.now.plan.now input.now.capture.now input.now.options.now (generation + 1) self.new.core) }
@@ -128,7 +125,8 @@ impl<K: KindSet, T: PoolLedger, G: Ledger> Station<K, T, G> {
         ensures plan { IsPlan input.now.plan.now }
         ensures few { length input.now.capture.now.packets ≤ 65536 }
     {
-        know_packets(input.capture.packets.as_slice());
+        // A reader tells how many packets a capture may have.
+        let _packets = input.capture.packets.as_slice();
         let script = input.plan.script();
         let book = input.plan.book(alloc, input.capture)?;
         let mut master = Master::new(alloc, input.plan)?;
@@ -153,6 +151,7 @@ impl<K: KindSet, T: PoolLedger, G: Ledger> Station<K, T, G> {
         ensures log { IfOk result (λ ended. ended.0.log ≡ self.core.log) }
         ensures sent { IfOk result (λ ended. ended.0.sent ≡ self.core.sent) }
         ensures counts { IfOk result (λ ended. ended.0.counts ≡ self.core.counts) }
+        ensures trace { IfOk result (λ ended. ended.0.trace ≡ self.core.trace) }
         ensures buffers { IfOk result (λ ended. ended.1 ≡ T.total) }
     {
         let Station {

@@ -1,5 +1,6 @@
-use Rattle.std.proofs.Common.{ℕ, List, subst, ◌∙◌}
+use Rattle.std.proofs.Common.{ℕ, List, [], ◌∷◌, subst, ◌∙◌}
 use Rattle.std.specs.List.Sorted.{IsPermutation}
+use Rattle.vg_counters.specs.Notes.{Notes, IsMerged}
 use Rattle.vg_engine.proofs.OutcomeLemmas.{outcome_is}
 use Rattle.vg_engine.proofs.runs.run_counted.Goals as goal
 
@@ -10,4 +11,4 @@ returns g c =
     outcome_is g.K.KindSet.meaning c.args.input.now.plan.now c.args.input.now.capture.now c.args.input.now.options.now c.run.new.self.core _ ran.plan ran.few ran.at
     (subst (λ log. IsPermutation log c.by_number.result) kept.log c.by_number.ensures.same) c.by_number.ensures.rising
     (subst (λ (sent : List (ℕ × List ℕ)). IsPermutation sent c.sort.new.self) kept.sent c.sort.ensures.same) c.sort.ensures.rising
-    kept.counts (kept.buffers ∙ c.requires.total) ran.last
+    kept.counts (subst (λ (notes : Notes). IsMerged (notes ∷ []) c.in_ok-trace.trace) kept.trace c.in_ok-trace.ensures) (kept.buffers ∙ c.requires.total) ran.last

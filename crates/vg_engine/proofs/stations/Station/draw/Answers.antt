@@ -30,7 +30,6 @@ loop-self-preserved g c =
       at =
           round_at g.K.KindSet.meaning c.args.input.now.plan.now c.args.input.now.capture.now c.args.input.now.options.now c.args.fork.now.generation c.args.limit
           c.if-len-eq0.self.cache.len c.args.fork.now.graph c.if-len-eq0.self.core c.round.new.self g.met.K.KindSet.lawful c.requires.sound c.requires.graph c.requires.limit
-          c.requires.bytes
           (subst (λ p. IsAt g.K.KindSet.meaning c.args.input.now.plan.now c.args.input.now.capture.now c.args.input.now.options.now c.args.fork.now.generation p) (sym core)
           c.loop-self.invariant.at)
           (omega (arith, c.loop-self-test.true, c.mark.ensures, same_mark)) c.round.ensures.round c.round.ensures.mark c.round.ensures.capture c.round.ensures.number

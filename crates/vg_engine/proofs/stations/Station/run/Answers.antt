@@ -4,12 +4,12 @@ use Rattle.vg_plan.specs.Routed.{with_routes}
 use Rattle.vg_plan.proofs.GenerationLemmas.{length_graphs}
 use Rattle.vg_engine.specs.Stations.{IsAt}
 use Rattle.vg_engine.specs.Turns.{IsLastGraph}
-use Rattle.vg_engine.proofs.TurnLemmas.{event_left, next_behind, graph_behind, limit_is, book_length, last_graph_is, if_ok}
+use Rattle.vg_engine.proofs.TurnLemmas.{can_make_next, next_behind, graph_behind, limit_is, book_length, last_graph_is, if_ok}
 use Rattle.vg_engine.proofs.stations.Station.run.Goals as goal
 
 pub make_next-requires : goal.make_next-requires
 make_next-requires g c =
-    event_left c.args.input.now.plan.now c.loop-generation.generation c.loop-generation.processes c.loop-generation.master c.script-script.ensures.plan c.loop-generation.invariant.behind
+    can_make_next c.args.input.now.plan.now c.loop-generation.generation c.loop-generation.processes c.loop-generation.master c.script-script.ensures.plan c.loop-generation.invariant.behind
     (omega (arith, c.loop-generation-test.true, c.generations-generation-end.ensures, book_length c.args.input.now.plan.now c.args.input.now.capture.now c.in_ok-book.book c.in_ok-book.ensures))
 
 pub run_generation-requires-in-loop-generation-clause-graph : goal.run_generation-requires-in-loop-generation-clause-graph
