@@ -1,6 +1,5 @@
 -- With one worker a run has one output.
 use Rattle.std.proofs.Common.{◌≡◌, ℕ, List, sym, ap, subst, ◌∙◌, length}
-use Rattle.std.specs.Prelude.{Some}
 use Rattle.std.proofs.lemmas.Option.{same_Some}
 use Rattle.vg_model.specs.Graph.{Graph}
 use Rattle.vg_model.specs.Visit.{Visit}

@@ -3,7 +3,7 @@ use Rattle.std.proofs.Common.{◌≡◌, ℕ, zero, suc, ◌+◌, ◌*◌, ◌<�
 use Rattle.std.specs.Prelude.{filter, flat_map, nat_lt, bytes_eq, slice_get, Option, Some, None, IsSome, IfSome, option_map, unwrap_or}
 use Rattle.std.specs.List.{AllByRecursion, IsDistinct, enumerate_from, position_from}
 use Rattle.std.proofs.lemmas.Bool.{ltb-true, false≢true}
-use Rattle.std.proofs.lemmas.List.{length-map}
+use Rattle.std.proofs.lemmas.List.{length-map, length-take}
 use Rattle.std.proofs.lemmas.List.FromFn.{length-enumerate_from}
 use Rattle.std.proofs.lemmas.List.Sums.{count_by-le-length}
 use Rattle.std.proofs.lemmas.Option.{none-some, slice_get-map, slice_get_within}
@@ -19,12 +19,13 @@ use Rattle.vg_model.specs.Journey.{Journey, end_of}
 use Rattle.vg_model.specs.Count.{trace, node_count, error_count, interface_count, is_drop, is_sent_on}
 use Rattle.vg_model.proofs.Journeys.{map_some}
 use Rattle.vg_report.specs.declared.reports.Report.{Report}
-use Rattle.vg_report.specs.Lawful.{AreErrorsFrom, IsDeclared, IsEndLawful, IsPacketLawful, IsLawful, names, number_of, error_place}
+use Rattle.vg_report.specs.Lawful.{AreErrorsFrom, IsDeclared, IsEndLawful, IsPacketLawful, IsTraceLawful, IsLawful, names, number_of, error_place}
 use Rattle.vg_engine.specs.Ends.{IsEndIn}
 use Rattle.vg_plan.specs.Plan.{IsGeneration}
 use Rattle.vg_words.specs.Command.{Run}
 use Rattle.vgd.specs.Output.{report_of, node_errors, packet_line_of, named_end, node_name, interface_name, last_graph}
 use Rattle.vgd.proofs.CongestionLemmas.{IsOwn, IsOwnEnd}
+use Rattle.vgd.proofs.TraceLemmas.{IsFew}
 
 -- the names of counts are those of what is counted
 names_are : {X : Type 0} (name_of : X → List ℕ) (count : ℕ → ℕ) (k : ℕ) (xs : List X)
@@ -143,6 +144,27 @@ lines_lawful g graphs packets r (j ∷ js) w gs own ends interface node = (
   lines_lawful g graphs packets r js w gs own.1 ends.1 interface node,
 )
 
+-- the names of nodes of the graph
+names_declared : (g : Graph) (ns : List (List ℕ)) (nodes : List ℕ) → ((n : ℕ) → n < length g.nodes → IsDeclared ns (node_name g n))
+    → AllByRecursion (λ node. node < length g.nodes) nodes → AllByRecursion (IsDeclared ns) (map (node_name g) nodes)
+names_declared g ns [] node all = tt
+names_declared g ns (n ∷ nodes) node all = (node n all.0, names_declared g ns nodes node all.1)
+
+-- the lines of traces
+traces_lawful : (g : Graph) (ns : List (List ℕ)) (count : ℕ) (js : List Journey) → ((n : ℕ) → n < length g.nodes → IsDeclared ns (node_name g n))
+    → AllByRecursion (λ (j : Journey). AllByRecursion (λ node. node < length g.nodes) (trace j)) js → AllByRecursion (λ (j : Journey). IsFew (trace j)) js
+    → AllByRecursion (IsTraceLawful ns) (map (λ j. map (node_name g) (trace j)) (take count js))
+traces_lawful g ns zero js node visits few = tt
+traces_lawful g ns (suc count) [] node visits few = tt
+traces_lawful g ns (suc count) (j ∷ js) node visits few = (
+  record {
+    some = let long = length-map (trace j) (node_name g) in let some = few.0.0 in omega (arith, long, some);
+    few = let long = length-map (trace j) (node_name g) in let most = few.0.1 in omega (arith, long, most);
+    declared = names_declared g ns (trace j) node visits.0;
+  },
+  traces_lawful g ns count js node visits.1 few.1,
+)
+
 -- a list of counts has as many entries as what is counted
 as_many : {X Y : Type 0} (f : ℕ × X → Y) (xs : List X) → length (map f (enumerate_from 0 xs)) ≡ length xs
 as_many f xs = length-map (enumerate_from 0 xs) f ∙ length-enumerate_from 0 xs
@@ -151,13 +173,15 @@ as_many f xs = length-map (enumerate_from 0 xs) f ∙ length-enumerate_from 0 xs
 pub record IsReportable (run : Run) (graphs : List Graph) (packets : ℕ) (js : List Journey) : Type 0 where
   pub workers : (1 ≤ run.workers) × (run.workers ≤ 8)
   pub buffers : run.buffers ≤ 16384
-  pub trace : run.trace ≡ 0
+  pub few_traces : run.trace ≤ 256
   pub generations : (1 ≤ length graphs) × (length graphs ≤ 1000)
   pub last : IsGeneration (last_graph graphs)
   pub few : length js ≤ 65536
   pub small : (node : ℕ) → node_count node js < 2 ^ 63
   pub own : AllByRecursion (IsOwn graphs packets) js
   pub ends : AllByRecursion (λ (j : Journey). IsEndIn (last_graph graphs) (end_of j.course.outcome)) js
+  pub visits : AllByRecursion (λ (j : Journey). AllByRecursion (λ node. node < length (last_graph graphs).nodes) (trace j)) js
+  pub traces : AllByRecursion (λ (j : Journey). IsFew (trace j)) js
 
 -- the whole report
 pub report_lawful : (run : Run) (graphs : List Graph) (packets : ℕ) (js : List Journey) (report : Report) → report ≡ report_of run graphs js → IsReportable run graphs packets js
@@ -175,8 +199,9 @@ report_lawful run graphs packets js report is able interface_names node_names =
     let nodes_long : length r.nodes ≡ length g.nodes = as_many (λ (n : ℕ × Node). (n.1.name, node_count n.0 js)) g.nodes in
     let node = map_some (λ (n : Node). n.kind) (slice_get g.nodes pg_input) _ last.valid.source in
     let some_node : 0 < length g.nodes = slice_get_within g.nodes pg_input node.0 node.1 in
-    let none : take run.trace js ≡ [] = ap (λ n. take n js) able.trace in
-    let no_traces : r.traces ≡ [] = ap (map (λ j. map (node_name g) (trace j))) none in
+    let taken : length r.traces ≡ length (take run.trace js) = length-map (take run.trace js) (λ j. map (node_name g) (trace j)) in
+    let first = length-take run.trace js in
+    let packets_long : length r.packets ≡ length js = length-map js (packet_line_of g) in
     subst IsLawful (sym is)
     (record {
       workers = able.workers;
@@ -204,6 +229,6 @@ report_lawful run graphs packets js report is able interface_names node_names =
       packets = lines_lawful g graphs packets r js able.workers.0 refl able.own able.ends
           (declared_at (λ i. i.name) g.interfaces (names r.interfaces) interfaces_are interfaces_differ)
           (declared_at (λ (n : Node). n.name) g.nodes (names r.nodes) nodes_are nodes_differ);
-      few_traces = let none_long = ap length no_traces in (omega (arith, none_long), omega (arith, none_long));
-      traces = subst (AllByRecursion _) (sym no_traces) tt;
+      few_traces = (let most = able.few_traces in omega (arith, taken, first, most), omega (arith, taken, first, packets_long));
+      traces = traces_lawful g (names r.nodes) run.trace js (declared_at (λ (n : Node). n.name) g.nodes (names r.nodes) nodes_are nodes_differ) able.visits able.traces;
     })

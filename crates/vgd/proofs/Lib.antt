@@ -10,4 +10,5 @@ pub mod ReportLemmas
 pub mod RunLemmas
 pub mod ScriptLemmas
 pub mod SentLemmas
+pub mod TraceLemmas
 pub mod WordLemmas

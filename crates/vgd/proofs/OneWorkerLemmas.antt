@@ -1,6 +1,6 @@
 -- With one worker no leg is handed to another, so each packet has one leg, that of the generation of its time.
-use Rattle.std.proofs.Common.{◌≡◌, ℕ, zero, suc, ◌%◌, ◌==◌, Bool, true, false, List, [], ◌∷◌, length, map, refl, sym, ap, subst, ◌∙◌}
-use Rattle.std.specs.Prelude.{Option, Some, None, option_map, option_and_then, nat_lt, slice_get, if◌then◌else◌, is_some, is_none}
+use Rattle.std.proofs.Common.{◌≡◌, ℕ, zero, suc, ◌%◌, Bool, true, false, List, [], ◌∷◌, length, map, refl, sym, ap, subst, ◌∙◌}
+use Rattle.std.specs.Prelude.{Option, Some, None, option_map, nat_lt, slice_get, if◌then◌else◌}
 use Rattle.std.specs.List.{AllByRecursion}
 use Rattle.std.proofs.Math.Nat.{mod-one}
 use Rattle.std.proofs.lemmas.Option.{none-some, same_Some}
@@ -11,9 +11,9 @@ use Rattle.vg_model.specs.declared.fates.Leg.{Leg}
 use Rattle.vg_model.specs.Packet.{Packet, fresh}
 use Rattle.vg_model.specs.Graph.{Graph, arc, pg_input}
 use Rattle.vg_model.specs.Visit.{Visit}
-use Rattle.vg_model.specs.Leg.{Outcome, Sent, Dropped, Handed, Way, Move, Onward, Over, handed, move_of, joined, after_visit, leg_within, ends_at, most_legs, first_slot}
-use Rattle.vg_model.specs.Journey.{Journey, Course, Choice, journey, journeys_from, journeys, started, goes_together, finished, first_leg, leg_from, legs_from, handed_over, last_leg, then_course}
-use Rattle.vg_model.specs.Lawful.{StartsAt, NeverFall, AreLawful, AreLawfulChoices}
+use Rattle.vg_model.specs.Leg.{Outcome, Sent, Dropped, Handed, Way, Move, Onward, Over, handed, move_of, joined, after_visit, leg_within, ends_at, first_slot}
+use Rattle.vg_model.specs.Journey.{Journey, Course, Choice, journey, journeys_from, started, goes_together, finished, first_leg, leg_from, legs_from, handed_over, last_leg}
+use Rattle.vg_model.specs.Lawful.{StartsAt}
 use Rattle.vg_model.proofs.Journeys.{map_some, then_some}
 use Rattle.vgd.specs.OneWorker.{only_choice, only_choices}
 

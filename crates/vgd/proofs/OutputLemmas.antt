@@ -1,16 +1,15 @@
 -- From what came of a run to its report and its savefile.
-use Rattle.std.proofs.Common.{◌≡◌, ℕ, suc, ◌-◌, ◌<◌, ◌≤◌, ◌+◌, ◌^◌, List, [], ◌∷◌, length, map, take, refl, sym, ap, subst, ◌∙◌, arith}
-use Rattle.std.specs.Prelude.{Some, None, option_map, flat_map, slice_get, slice_index}
+use Rattle.std.proofs.Common.{◌≡◌, ℕ, suc, ◌-◌, ◌<◌, ◌≤◌, ◌+◌, ◌^◌, List, [], ◌∷◌, length, map, take, sym, ap, subst, ◌∙◌, arith}
+use Rattle.std.specs.Prelude.{Some, option_map, flat_map, slice_get}
 use Rattle.std.specs.List.{AllByRecursion, enumerate_from}
 use Rattle.std.proofs.lemmas.List.{length-map}
-use Rattle.std.proofs.lemmas.Option.{none-some, same_Some, slice_get_within}
-use Rattle.vg_model.specs.declared.fates.Fate.{Fate}
+use Rattle.std.proofs.lemmas.Option.{none-some, same_Some}
 use Rattle.vg_model.specs.declared.fates.Leg.{Leg}
 use Rattle.vg_model.specs.declared.routes.Prefix.{Prefix}
 use Rattle.vg_model.specs.declared.routes.RouteTo.{RouteTo}
 use Rattle.vg_model.specs.Graph.{Graph, Node}
 use Rattle.vg_model.specs.Visit.{Visit, ip4_visit}
-use Rattle.vg_model.specs.Journey.{Journey, Choice, journey, journeys, journeys_from, fates, fate_of, sent, end_of}
+use Rattle.vg_model.specs.Journey.{Journey, Choice, journey, journeys_from, fates, end_of}
 use Rattle.vg_model.specs.Lawful.{AreLawfulChoices}
 use Rattle.vg_model.specs.Count.{trace, node_count, interface_count}
 use Rattle.vg_model.proofs.Journeys.{map_some, then_some}
@@ -33,11 +32,12 @@ use Rattle.vg_engine.specs.Ends.{IsEndIn}
 use Rattle.vg_words.specs.Command.{Run}
 use Rattle.vgd.specs.Command.{options_of}
 use Rattle.vgd.specs.Output.{IsOutput, report_of, choices_of, last_graph, frames_of, node_name, node_errors, packet_line_of}
-use Rattle.vgd.specs.Reports.{reported, counted, line_of_fate}
+use Rattle.vgd.specs.Reports.{reported, line_of_fate}
 use Rattle.vgd.proofs.OneWorkerLemmas.{alone}
 use Rattle.vgd.proofs.CongestionLemmas.{IsOwn, own_journeys}
-use Rattle.vgd.proofs.ReportLemmas.{counted_are, errors_are, lines_are}
+use Rattle.vgd.proofs.ReportLemmas.{counted_are, errors_are, lines_are, traces_are}
 use Rattle.vgd.proofs.LawfulLemmas.{IsReportable}
+use Rattle.vgd.proofs.TraceLemmas.{few_traces, taken_traces}
 
 -- the last of some graphs
 last_is : (graphs : List Graph) (g : Graph) → slice_get graphs (length graphs - 1) ≡ Some g → last_graph graphs ≡ g
@@ -81,19 +81,20 @@ report_with run generations g js = record {
 }
 
 -- the report of what came of a run, part by part
-reported_with : (run : Run) (options : Options) (generations : ℕ) (outcome : Outcome) (routes : List (Prefix × RouteTo)) (js : List Journey) → options_of run ≡ options → options.trace ≡ 0
-    → outcome.buffers ≡ options.buffers → outcome.fates ≡ fates js → AreCounts js outcome.counts
+reported_with : (run : Run) (options : Options) (generations : ℕ) (outcome : Outcome) (routes : List (Prefix × RouteTo)) (js : List Journey) → options_of run ≡ options
+    → outcome.buffers ≡ options.buffers → outcome.fates ≡ fates js → AreCounts js outcome.counts → outcome.trace ≡ map trace (take options.trace js)
     → reported options generations outcome ≡ report_with run generations (with_routes outcome.last routes) js
-reported_with run options generations outcome routes js same no_trace buffers are_fates counts =
+reported_with run options generations outcome routes js same buffers are_fates counts are_traces =
     let g : Graph = with_routes outcome.last routes in
     let workers : options.workers ≡ run.workers = ap (λ (o : Options). o.workers) (sym same) in
     let all_back : outcome.buffers ≡ run.buffers = buffers ∙ ap (λ (o : Options). o.buffers) (sym same) in
-    let traced : run.trace ≡ 0 = ap (λ (o : Options). o.trace) same ∙ no_trace in
+    let traced : options.trace ≡ run.trace = ap (λ (o : Options). o.trace) (sym same) in
     let interfaces = counted_are (λ interface. interface.name) (λ n. interface_count n js) g.interfaces outcome.counts.sends counts.sends in
     let nodes = counted_are (λ (node : Node). node.name) (λ n. node_count n js) g.nodes outcome.counts.visits counts.visits in
     let errors = errors_are js g.nodes outcome.counts.drops counts.drops in
     let packets = ap (map (line_of_fate g)) are_fates ∙ lines_are g js in
-    let traces : map (λ j. map (node_name g) (trace j)) (take run.trace js) ≡ [] = ap (λ n. map (λ j. map (node_name g) (trace j)) (take n js)) traced in
+    let traces : map (map (node_name g)) outcome.trace ≡ map (λ j. map (node_name g) (trace j)) (take run.trace js) =
+    ap (map (map (node_name g))) are_traces ∙ (traces_are g (take options.trace js) ∙ ap (λ n. map (λ j. map (node_name g) (trace j)) (take n js)) traced) in
     λ i. record {
       workers = workers i;
       buffers = all_back i;
@@ -102,7 +103,7 @@ reported_with run options generations outcome routes js same no_trace buffers ar
       nodes = nodes i;
       errors = errors i;
       packets = packets i;
-      traces = sym traces i;
+      traces = traces i;
     }
 
 -- a run's outcome by a plan
@@ -112,17 +113,17 @@ module _ (plan : Planned) (options : Options) (capture : Capture) (outcome : Out
   whole = is.last_is ∙ sym (last_is plan.graphs is.last is.is_last.is)
 
   -- the report is that of the journeys
-  pub reported_is : (run : Run) → options_of run ≡ options → options.trace ≡ 0 → reported options (length plan.graphs) outcome ≡ report_of run plan.graphs is.js
-  reported_is run same no_trace =
-      reported_with run options (length plan.graphs) outcome is.last.routes is.js same no_trace is.buffers is.are_fates is.counts
+  pub reported_is : (run : Run) → options_of run ≡ options → reported options (length plan.graphs) outcome ≡ report_of run plan.graphs is.js
+  reported_is run same =
+      reported_with run options (length plan.graphs) outcome is.last.routes is.js same is.buffers is.are_fates is.counts is.traces
       ∙ ap (λ g. report_with run (length plan.graphs) g is.js) whole
 
   -- the report and the savefile are the run's
-  pub output_is : (report : Report) (tx : List ℕ) (run : Run) → options_of run ≡ options → options.workers ≡ 1 → options.trace ≡ 0 → report ≡ reported options (length plan.graphs) outcome
+  pub output_is : (report : Report) (tx : List ℕ) (run : Run) → options_of run ≡ options → options.workers ≡ 1 → report ≡ reported options (length plan.graphs) outcome
       → tx ≡ savefile capture outcome.sent → IsOutput ip4_visit plan.graphs (first_generation plan.script capture) run capture report tx
-  output_is report tx run same one no_trace made saved =
+  output_is report tx run same one made saved =
       let first : ℕ → ℕ = first_generation plan.script capture in
-      let is_report : report ≡ report_of run plan.graphs is.js = made ∙ reported_is run same no_trace in
+      let is_report : report ≡ report_of run plan.graphs is.js = made ∙ reported_is run same in
       let workers : 1 ≡ run.workers = sym one ∙ ap (λ (o : Options). o.workers) (sym same) in
       let queue : options.queue ≡ run.queue = ap (λ (o : Options). o.queue) (sym same) in
       let chosen : List Choice = engine.choices_of first (enumerate_from 0 (engine.frames capture.packets)) in
@@ -144,23 +145,35 @@ module _ (plan : Planned) (options : Options) (capture : Capture) (outcome : Out
   own = own_journeys plan.graphs (frames_of capture) (engine.choices_of (first_generation plan.script capture) (enumerate_from 0 (engine.frames capture.packets))) is.js is.lawful.are_journeys
 
   -- what the report is made from is in range
-  pub reportable : (run : Run) → options_of run ≡ options → options.trace ≡ 0 → AreInRange options → IsPlan plan → length plan.graphs ≡ length (events plan.script) + 1 → length capture.packets ≤ 65536
+  pub reportable : (run : Run) → options_of run ≡ options → AreInRange options → IsPlan plan → length plan.graphs ≡ length (events plan.script) + 1 → length capture.packets ≤ 65536
       → IsReportable run plan.graphs (length (frames_of capture)) is.js
-  reportable run same no_trace range planned count few_packets =
+  reportable run same range planned count few_packets =
       let workers : options.workers ≡ run.workers = ap (λ (o : Options). o.workers) (sym same) in
       let buffers : options.buffers ≡ run.buffers = ap (λ (o : Options). o.buffers) (sym same) in
-      let traced : run.trace ≡ 0 = ap (λ (o : Options). o.trace) same ∙ no_trace in
+      let traced : options.trace ≡ run.trace = ap (λ (o : Options). o.trace) (sym same) in
+      let most_traced : options.trace ≤ 256 = range.trace in
       let few = events_are_few plan.script planned.lawful in
       let frames : length (frames_of capture) ≡ length capture.packets = length-map capture.packets (λ p. p.bytes) in
       let last : last_graph plan.graphs ≡ is.last = last_is plan.graphs is.last is.is_last.is in
       record {
         workers = (omega (arith, range.workers.0, workers), omega (arith, range.workers.1, workers));
         buffers = omega (arith, range.buffers.1, buffers);
-        trace = traced;
+        few_traces = omega (arith, most_traced, traced);
         generations = (omega (arith, count), omega (arith, count, few));
         last = subst IsGeneration (sym last) (all_at IsGeneration plan.graphs (length plan.graphs - 1) is.last is.is_last.is planned.generations);
         few = let long = own.1 in omega (arith, long, frames, few_packets);
         small = λ node. subst (λ n. n < 2 ^ 63) (is.counts.visits node) (is.whole.visits node);
         own = own.0;
         ends = subst (λ g. AllByRecursion (λ (j : Journey). IsEndIn g (end_of j.course.outcome)) is.js) (sym last) is.ends;
+        visits = subst (λ (g : Graph). AllByRecursion (λ (j : Journey). AllByRecursion (λ node. node < length g.nodes) (trace j)) is.js) (sym last) is.visits;
+        traces = few_traces ip4_visit plan.graphs (frames_of capture)
+            (engine.choices_of (first_generation plan.script capture) (enumerate_from 0 (engine.frames capture.packets))) is.js planned.generations is.lawful.are_journeys;
       }
+
+  -- each node of a trace is one of the last graph's
+  pub traced_within : AllByRecursion (AllByRecursion (λ node. node < length outcome.last.nodes)) outcome.trace
+  traced_within =
+      let by_graph : AllByRecursion (λ (j : Journey). AllByRecursion (λ node. node < length (with_routes outcome.last is.last.routes).nodes) (trace j)) is.js =
+      subst (λ (g : Graph). AllByRecursion (λ (j : Journey). AllByRecursion (λ node. node < length g.nodes) (trace j)) is.js) (sym is.last_is) is.visits in
+      subst (AllByRecursion (AllByRecursion (λ node. node < length outcome.last.nodes))) (sym is.traces)
+      (taken_traces (AllByRecursion (λ node. node < length outcome.last.nodes)) options.trace is.js by_graph)

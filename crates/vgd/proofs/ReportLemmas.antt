@@ -1,16 +1,14 @@
 -- The report of what a run comes to is that of its journeys.
-use Rattle.std.proofs.Common.{◌≡◌, ℕ, suc, ◌+◌, List, [], ◌∷◌, ◌++◌, map, refl, ap}
+use Rattle.std.proofs.Common.{◌≡◌, ℕ, ◌+◌, List, [], ◌∷◌, ◌++◌, map, refl, ap}
 use Rattle.std.specs.Prelude.{filter, flat_map, nat_lt, slice_index}
 use Rattle.std.specs.List.{enumerate_from}
 use Rattle.vg_model.specs.declared.kinds.DropError.{DropError}
-use Rattle.vg_model.specs.declared.fates.Leg.{Leg}
 use Rattle.vg_model.specs.Errors.{all_errors, error_number}
 use Rattle.vg_model.specs.Graph.{Graph, Node}
-use Rattle.vg_model.specs.Journey.{Journey, Choice, fate_of}
-use Rattle.vg_model.specs.Count.{error_count}
+use Rattle.vg_model.specs.Journey.{Journey, fate_of}
+use Rattle.vg_model.specs.Count.{trace, error_count}
 use Rattle.vg_counters.specs.Tally.{drops_at}
-use Rattle.vg_report.specs.declared.reports.PacketLine.{PacketLine}
-use Rattle.vgd.specs.Output.{node_errors, packet_line_of}
+use Rattle.vgd.specs.Output.{node_name, node_errors, packet_line_of}
 use Rattle.vgd.specs.Reports.{counted, made_entry, made_of, made_by, all_made, line_of_fate}
 
 -- counts by name, where they are counts by number, from a number on
@@ -52,3 +50,8 @@ errors_are js nodes drops h = errors_from js drops 0 nodes h
 pub lines_are : (g : Graph) (js : List Journey) → map (line_of_fate g) (map fate_of js) ≡ map (packet_line_of g) js
 lines_are g [] = refl
 lines_are g (j ∷ js) = ap (λ l. packet_line_of g j ∷ l) (lines_are g js)
+
+-- the lines of traces
+pub traces_are : (g : Graph) (js : List Journey) → map (map (node_name g)) (map trace js) ≡ map (λ j. map (node_name g) (trace j)) js
+traces_are g [] = refl
+traces_are g (j ∷ js) = ap (λ l. map (node_name g) (trace j) ∷ l) (traces_are g js)

@@ -1,5 +1,5 @@
 -- From what the steps of a run found to what is due.
-use Rattle.std.proofs.Common.{◌≡◌, ℕ, ◌+◌, ◌<◌, ◌⊎◌, List, [], ◌∷◌, length, map, take, refl, sym, ap, subst, ◌∙◌, inl, inr, arith}
+use Rattle.std.proofs.Common.{◌≡◌, ℕ, ◌+◌, ◌<◌, ◌⊎◌, List, length, take, refl, sym, ap, ◌∙◌, inl, inr, arith}
 use Rattle.std.specs.Prelude.{Option, Some, None, IfSome, IsSomeAnd, Result, Ok, Err, IfOk, if◌then◌else◌}
 use Rattle.std.specs.Borrow.{Bor}
 use Rattle.std.proofs.lemmas.Bool.{cases_lt, lt-ltb}
@@ -9,7 +9,7 @@ use Rattle.vg_model.specs.Graph.{Graph}
 use Rattle.vg_model.specs.Visit.{ip4_visit}
 use Rattle.vg_outside.specs.Files.{Files, file, Rose, FirstBytes, FailedLoad, HoldsBytes, SameElsewhere}
 use Rattle.vg_capture.specs.declared.captures.Capture.{Capture}
-use Rattle.vg_capture.specs.Savefile.{capture_of, largest_file, savefile, pairs}
+use Rattle.vg_capture.specs.Savefile.{capture_of, largest_file}
 use Rattle.vg_capture.proofs.LimitLemmas.{capture_of-take}
 use Rattle.vg_script.specs.declared.errors.ScriptError.{ScriptError}
 use Rattle.vg_script.specs.declared.errors.ScriptCause.TheVariants as causes
@@ -24,7 +24,7 @@ use Rattle.vgd.specs.declared.refusals.Refusal.TheVariants as refusals
 use Rattle.vgd.specs.declared.refusals.Stop.{Stop}
 use Rattle.vgd.specs.declared.refusals.Stop.TheVariants as stops
 use Rattle.vgd.specs.declared.run.Due.{Due}
-use Rattle.vg_plan.specs.Plan.{Planned, first_generation}
+use Rattle.vg_plan.specs.Plan.{first_generation}
 use Rattle.vg_words.specs.Command.{Run}
 use Rattle.vgd.specs.Command.{run_asked}
 use Rattle.vgd.specs.Plan.{graphs_by, graphs_of}

@@ -1,9 +1,8 @@
 -- Packets sent, one by one.
-use Rattle.std.proofs.Common.{◌≡◌, ℕ, ◌+◌, ◌<◌, ◌^◌, zero, suc, List, [], ◌∷◌, ◌++◌, length, map, take, refl, sym, ap, subst, ◌∙◌, arith}
-use Rattle.std.specs.Prelude.{Option, Some, None, slice_get, slice_index_or, All}
-use Rattle.std.specs.List.{AllByRecursion, filter_map, cons_option}
+use Rattle.std.proofs.Common.{◌≡◌, ℕ, ◌+◌, ◌<◌, ◌≤◌, ◌^◌, zero, suc, List, [], ◌∷◌, ◌++◌, length, map, take, sym, ap, subst, ◌∙◌, arith}
+use Rattle.std.specs.Prelude.{Some, slice_get, slice_index_or}
+use Rattle.std.specs.List.{AllByRecursion, cons_option}
 use Rattle.std.proofs.lemmas.List.{map_push}
-use Rattle.std.proofs.lemmas.List.Elements.{All-append}
 use Rattle.vg_model.specs.declared.fates.Fate.{Fate}
 use Rattle.vg_model.specs.declared.fates.End.{End}
 use Rattle.vg_model.specs.declared.fates.End.TheVariants as ends
@@ -11,7 +10,7 @@ use Rattle.vg_model.specs.declared.routes.Prefix.{Prefix}
 use Rattle.vg_model.specs.declared.routes.RouteTo.{RouteTo}
 use Rattle.vg_model.specs.Graph.{Graph}
 use Rattle.vg_model.specs.Leg.{Outcome, Sent, Dropped, Handed}
-use Rattle.vg_model.specs.Journey.{Journey, sent, sent_of, sent_as, fate_of, fates, end_of}
+use Rattle.vg_model.specs.Journey.{Journey, longest_packet, sent, sent_as, fate_of, fates, end_of}
 use Rattle.vg_capture.specs.declared.captures.Sent as captures
 use Rattle.vg_capture.specs.Savefile.{pairs, AreWithin}
 use Rattle.vg_plan.specs.Routed.{with_routes}
@@ -26,18 +25,6 @@ pairs_more packets after one sent k packet e there same more =
     ap pairs more ∙ (map_push (λ (s : captures.Sent). (s.number, s.bytes)) packets one
     ∙ (ap (λ l. l ++ (one.number, one.bytes) ∷ []) e ∙ (ap (λ p. take k sent ++ p ∷ []) same ∙ sym (next_entry sent k packet there))))
 
-pub short_more : (packets after : List captures.Sent) (one : captures.Sent) → All (λ (s : captures.Sent). length s.bytes < 2 ^ 32) packets → length one.bytes < 2 ^ 32
-    → after ≡ packets ++ one ∷ [] → All (λ (s : captures.Sent). length s.bytes < 2 ^ 32) after
-short_more packets after one all short more =
-    subst (All (λ (s : captures.Sent). length s.bytes < 2 ^ 32)) (sym more) (All-append (λ (s : captures.Sent). length s.bytes < 2 ^ 32) packets (one ∷ []) all (only one short))
-  where
-    only : (one : captures.Sent) → length one.bytes < 2 ^ 32 → All (λ (s : captures.Sent). length s.bytes < 2 ^ 32) (one ∷ [])
-    only one short = λ k d h. at k d h
-      where
-        at : (k : ℕ) (d : captures.Sent) → k < 1 → length (slice_index_or (one ∷ []) k d).bytes < 2 ^ 32
-        at zero d h = short
-        at (suc k) d h = absurd (omega (arith, h))
-
 -- what was sent of journeys has numbers below so many
 sent_number : (n number : ℕ) (bytes : List ℕ) (o : Outcome) (rest : List (ℕ × List ℕ)) → number < n → AllByRecursion (λ (p : ℕ × List ℕ). p.0 < n) rest
     → AllByRecursion (λ (p : ℕ × List ℕ). p.0 < n) (cons_option (sent_as number bytes o) rest)
@@ -50,15 +37,18 @@ sent_numbers graphs n [] all = tt
 sent_numbers graphs n (j ∷ js) all = sent_number n j.number j.course.packet.bytes j.course.outcome (sent js) all.0.number (sent_numbers graphs n js all.1)
 
 -- so a savefile of them can be written
-numbers_of : (n : ℕ) (xs : List captures.Sent) → AllByRecursion (λ (p : ℕ × List ℕ). p.0 < n) (pairs xs) → All (λ (s : captures.Sent). length s.bytes < 2 ^ 32) xs
+numbers_of : (n : ℕ) (xs : List captures.Sent) → AllByRecursion (λ (p : ℕ × List ℕ). p.0 < n) (pairs xs)
+    → AllByRecursion (λ (p : ℕ × List ℕ). length p.1 ≤ longest_packet) (pairs xs)
     → (k : ℕ) (d : captures.Sent) → k < length xs → ((slice_index_or xs k d).number < n) × (length (slice_index_or xs k d).bytes < 2 ^ 32)
 numbers_of n [] all short k d h = absurd (omega (arith, h))
-numbers_of n (x ∷ xs) all short zero d h = (all.0, short zero d h)
-numbers_of n (x ∷ xs) all short (suc k) d h = numbers_of n xs all.1 (λ i e within. short (suc i) e (omega (arith, within))) k d (omega (arith, h))
+numbers_of n (x ∷ xs) all short zero d h = (all.0, let least = short.0 in omega (arith, least))
+numbers_of n (x ∷ xs) all short (suc k) d h = numbers_of n xs all.1 short.1 k d (omega (arith, h))
 
 pub are_within : (graphs : List Graph) (n : ℕ) (xs : List captures.Sent) (js : List Journey) → pairs xs ≡ sent js → AllByRecursion (IsOwn graphs n) js
-    → All (λ (s : captures.Sent). length s.bytes < 2 ^ 32) xs → AreWithin n xs
-are_within graphs n xs js e own short = numbers_of n xs (subst (AllByRecursion (λ (p : ℕ × List ℕ). p.0 < n)) (sym e) (sent_numbers graphs n js own)) short
+    → AllByRecursion (λ (p : ℕ × List ℕ). length p.1 ≤ longest_packet) (sent js) → AreWithin n xs
+are_within graphs n xs js e own short =
+    numbers_of n xs (subst (AllByRecursion (λ (p : ℕ × List ℕ). p.0 < n)) (sym e) (sent_numbers graphs n js own))
+    (subst (AllByRecursion (λ (p : ℕ × List ℕ). length p.1 ≤ longest_packet)) (sym e) short)
 
 -- an end in a graph with routes is one in the graph
 end_in : (g : Graph) (routes : List (Prefix × RouteTo)) (end : End) → IsEndIn (with_routes g routes) end → IsEndIn g end

@@ -1,11 +1,11 @@
 -- What the words of the command line ask for.
-use Rattle.std.specs.Prelude.{ℕ, ◌==◌, List, Option, Some, None, option_and_then, if◌then◌else◌}
+use Rattle.std.specs.Prelude.{ℕ, List, Option, Some, None, option_and_then}
 use Rattle.vg_words.specs.Command.{Run, Command, Runs, Loads, built, command}
 use Rattle.vg_dispatch.specs.declared.options.Options.{Options}
 
--- the run of a command, where no packet is to be traced: traces are not built yet
+-- the run of a command
 abbrev pub run_in : Command → Option Run
-run_in (Runs run) = if run.trace == 0 then Some run else None
+run_in (Runs run) = Some run
 run_in (Loads seed packets workers) = None
 
 -- the run that words ask for, where it is built

@@ -1,5 +1,5 @@
 -- What is due where a run stops.
-use Rattle.std.specs.Prelude.{◌≡◌, ℕ, List, [], ◌∷◌}
+use Rattle.std.specs.Prelude.{◌≡◌}
 use Rattle.vgd.specs.declared.refusals.Stop.{Stop}
 use Rattle.vgd.specs.declared.refusals.Stop.TheVariants as stops
 use Rattle.vgd.specs.declared.run.Due.{Due}

@@ -1,5 +1,5 @@
 -- The report of a run, part by part.
-use Rattle.std.specs.Prelude.{ℕ, nat_lt, List, [], map, flat_map, filter, slice_index}
+use Rattle.std.specs.Prelude.{ℕ, nat_lt, List, map, flat_map, filter, slice_index}
 use Rattle.std.specs.List.{enumerate_from}
 use Rattle.vg_model.specs.declared.kinds.DropError.{DropError}
 use Rattle.vg_model.specs.declared.fates.Fate.{Fate}
@@ -10,7 +10,7 @@ use Rattle.vg_report.specs.declared.reports.PacketLine.{PacketLine}
 use Rattle.vg_report.specs.declared.reports.Report.{Report}
 use Rattle.vg_dispatch.specs.declared.options.Options.{Options}
 use Rattle.vg_engine.specs.declared.runs.Outcome.{Outcome}
-use Rattle.vgd.specs.Output.{named_end}
+use Rattle.vgd.specs.Output.{named_end, node_name}
 
 -- each by its name, with the count of its number
 abbrev pub counted : {X : Type 0} → (X → List ℕ) → List X → List ℕ → List (List ℕ × ℕ)
@@ -46,5 +46,5 @@ reported options generations outcome = record {
   nodes = counted (λ node. node.name) outcome.last.nodes outcome.counts.visits;
   errors = all_made outcome.last.nodes outcome.counts.drops;
   packets = map (line_of_fate outcome.last) outcome.fates;
-  traces = [];
+  traces = map (map (node_name outcome.last)) outcome.trace;
 }

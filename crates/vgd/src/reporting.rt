@@ -1,18 +1,20 @@
 //! The report of what became of packets.
-ghost use Rattle.std.specs.Prelude.{◌≡◌, [], ◌++◌, ◌<◌, ◌≤◌, length, map, IfOk, OnOk};
+ghost use Rattle.std.specs.Prelude.{◌≡◌, ◌++◌, ◌<◌, ◌≤◌, length, map, IfOk, OnOk};
 ghost use Rattle.std.specs.List.{AllByRecursion};
 ghost use Rattle.vg_model.specs.Errors.{all_errors};
 ghost use Rattle.vg_model.specs.Name.{IsName};
 ghost use Rattle.vg_engine.specs.Ends.{IsEndIn};
-ghost use Rattle.vgd.specs.Output.{named_end};
+ghost use Rattle.vgd.specs.Output.{named_end, node_name};
 ghost use Rattle.vgd.specs.Reports.{counted, made_of, made_by, all_made, line_of_fate, reported};
 
 use std::alloc::{AllocError, Global};
-use vg_counters::Counters;
+use vg_counters::{Counters, TraceLists};
 use vg_engine::{Options, Outcome};
 use vg_graph::Graph;
 use vg_model::{DropError, End, Fate, Fates, Name};
-use vg_report::{ErrorCounts, NameCounts, PacketEnd, PacketLine, PacketLines, Report, TraceLines};
+use vg_report::{
+    ErrorCounts, NameCounts, Names, PacketEnd, PacketLine, PacketLines, Report, TraceLines,
+};
 
 /// The same name once more.
 fn copied(name: &Name) -> Name
@@ -127,6 +129,31 @@ fn lines(alloc: Global, graph: &Graph, fates: Fates) -> Result<PacketLines, Allo
     Ok(PacketLines::from_vec(lines))
 }
 
+/// The names of nodes.
+fn names(alloc: Global, graph: &Graph, nodes: &[u16]) -> Result<Names, AllocError>
+    requires { AllByRecursion (λ node. node < length graph.now.nodes) nodes.now }
+    ensures { IfOk result (λ names. names ≡ map (node_name graph.now) nodes.now) }
+{
+    let mut names = Vec::with_capacity(alloc, nodes.len())?;
+    for node in nodes {
+        names.push(copied(graph.node_name(*node)))?;
+    }
+    Ok(Names::from_vec(names))
+}
+
+/// The lines of traces.
+fn traces(alloc: Global, graph: &Graph, lists: &TraceLists) -> Result<TraceLines, AllocError>
+    requires { AllByRecursion (AllByRecursion (λ node. node < length graph.now.nodes)) lists.now }
+    ensures { IfOk result (λ traces. traces ≡ map (map (node_name graph.now)) lists.now) }
+{
+    let lists = lists.as_slice();
+    let mut traces = Vec::with_capacity(alloc, lists.len())?;
+    for nodes in lists {
+        traces.push(names(alloc, graph, nodes.as_slice())?)?;
+    }
+    Ok(TraceLines::from_vec(traces))
+}
+
 /// The report of what came of a run over so many generations.
 pub fn report(
     alloc: Global,
@@ -137,6 +164,7 @@ pub fn report(
     requires nodes { length outcome.last.nodes ≤ length outcome.counts.visits }
     requires interfaces { length outcome.last.interfaces ≤ length outcome.counts.sends }
     requires ends { AllByRecursion (λ fate. IsEndIn outcome.last fate.end) outcome.fates }
+    requires traces { AllByRecursion (AllByRecursion (λ node. node < length outcome.last.nodes)) outcome.trace }
     ensures report { IfOk result (λ report. report ≡ reported options.now generations outcome) }
     ensures interfaces { IfOk result (λ report. AllByRecursion (λ entry. IsName entry.0) report.interfaces) }
     ensures nodes { IfOk result (λ report. AllByRecursion (λ entry. IsName entry.0) report.nodes) }
@@ -145,6 +173,7 @@ pub fn report(
         fates,
         sent: _,
         counts,
+        trace,
         buffers,
         last,
     } = outcome;
@@ -156,6 +185,6 @@ pub fn report(
         nodes: nodes(alloc, &last, &counts)?,
         errors: errors(alloc, &last, &counts)?,
         packets: lines(alloc, &last, fates)?,
-        traces: TraceLines::from_vec(Vec::new(alloc)),
+        traces: traces(alloc, &last, &trace)?,
     })
 }

@@ -60,20 +60,13 @@ struct Texts {
     report: Bytes,
 }
 
-/// The longest record of a savefile in bytes, whose length has 32 bits. No packet that is transmitted is so long.
-const LONGEST_SENT: usize = u32::MAX as usize;
-
 /// The packets that were transmitted, as they are saved.
 fn sent_packets(alloc: Global, sent: &SentList) -> Result<Vec<Sent>, AllocError>
-    ensures pairs { IfOk result (λ packets. pairs packets.items ≡ sent.now) }
-    ensures short { IfOk result (λ packets. All (λ packet. length packet.bytes < 2 ^ 32) packets.items) }
+    ensures { IfOk result (λ packets. pairs packets.items ≡ sent.now) }
 {
     let mut packets = Vec::with_capacity(alloc, sent.len())?;
     for k in 0..sent.len() {
         let (number, bytes) = sent.get(k);
-        if bytes.len() > LONGEST_SENT {
-            return Err(AllocError);
-        }
         packets.push(Sent {
             number,
             bytes: Bytes::from_vec(Vec::from_slice(alloc, bytes)?),
@@ -86,7 +79,6 @@ fn sent_packets(alloc: Global, sent: &SentList) -> Result<Vec<Sent>, AllocError>
 fn forward(alloc: Global, input: &Input, options: &Options) -> Result<Texts, Memory>
     requires worker { options.now.workers ≡ 1 }
     requires options { AreInRange options.now }
-    requires trace { options.now.trace ≡ 0 }
     ensures { IfOk result (AreTextsOf input.now.plan options.now input.now.capture) }
 {
     let Input { capture, plan } = input;
@@ -125,12 +117,12 @@ fn options_of(run: &Run<'_>) -> Options
     }
 }
 
-/// The run that the words ask for, as far as it is built; None where they ask for none. No packet is traced yet.
+/// The run that the words ask for, as far as it is built; None where they ask for none.
 fn asked<'a>(alloc: Global, words: &'a [&'a str]) -> Result<Option<Run<'a>>, Memory>
     ensures { IfOk result (λ run. option_map run_shown run ≡ run_asked (texts words.now)) }
 {
     match read_words(alloc, words)? {
-        Some(Command::Run(run)) if run.trace == 0 => Ok(Some(run)),
+        Some(Command::Run(run)) => Ok(Some(run)),
         _ => Ok(None),
     }
 }

@@ -628,6 +628,41 @@ fn one_more_than_may_be_is_refused(rt: HostRuntime) -> Result<(), Fail> {
     )
 }
 
+/// A run with so many traces prints these lines before the last line of the report.
+fn assert_traced<R: Abort + AllocGlobal>(rt: &R, trace: &str, lines: &str) -> Result<(), Fail> {
+    let alloc = rt.alloc();
+    let capture = savefile(alloc, &[FRAME, FRAME, ARP])?;
+    let words = ["run", "--trace", trace, "c", "s", "t"];
+    let ran = run_over(alloc, &words, capture.as_slice(), WIRE)?;
+    let before = REPORT.strip_suffix("end\n").ok_or("no end")?;
+    let report = format!(in alloc; "{before}{lines}end\n")?;
+    assert_eq!(rt; ran.printed.as_slice(), report.as_str().as_bytes());
+    assert_eq!(rt; ran.status, 0);
+    assert_eq!(rt;
+        ran.tx.ok_or("no savefile")?,
+        savefile(alloc, &[FRAME, FRAME])?
+    );
+    Ok(())
+}
+
+#[test]
+fn the_first_packets_are_traced(rt: HostRuntime) -> Result<(), Fail> {
+    assert_traced(&rt, "0", "")?;
+    assert_traced(
+        &rt,
+        "2",
+        "trace 0 pg-input ethernet-input interface-tx\n\
+            trace 1 pg-input ethernet-input interface-tx\n",
+    )?;
+    assert_traced(
+        &rt,
+        "9",
+        "trace 0 pg-input ethernet-input interface-tx\n\
+            trace 1 pg-input ethernet-input interface-tx\n\
+            trace 2 pg-input ethernet-input error-drop\n",
+    )
+}
+
 /// A run over a folder whose call of this number fails has this status and prints this line.
 fn assert_fails<R: Abort + AllocGlobal>(
     rt: &R,

@@ -1,7 +1,9 @@
-use Rattle.std.proofs.Common.{◌≡◌, ◌≤◌, ℕ, List, [], ap, subst, sym, ◌∙◌, length, refl, arith}
-use Rattle.std.specs.Prelude.{None, All}
+use Rattle.std.proofs.Common.{◌≡◌, ℕ, ◌≤◌, List, [], ap, subst, sym, ◌∙◌, length, refl}
+use Rattle.std.specs.Prelude.{None}
 use Rattle.std.proofs.lemmas.List.{length-map}
+use Rattle.std.specs.List.{AllByRecursion}
 use Rattle.vg_model.specs.Visit.{ip4_visit}
+use Rattle.vg_model.specs.Journey.{longest_packet}
 use Rattle.vg_capture.specs.declared.captures.Sent.{Sent}
 use Rattle.vg_capture.specs.Savefile.{savefile, pairs, AreWithin}
 use Rattle.vg_plan.specs.Plan.{first_generation}
@@ -11,7 +13,7 @@ use Rattle.vg_words.specs.Command.{Run}
 use Rattle.vgd.specs.Output.{frames_of}
 use Rattle.vgd.specs.Reports.{reported}
 use Rattle.vgd.proofs.SentLemmas.{are_within, fates_end}
-use Rattle.vgd.proofs.OutputLemmas.{own, reported_is, output_is, reportable}
+use Rattle.vgd.proofs.OutputLemmas.{own, reported_is, output_is, reportable, traced_within}
 use Rattle.vgd.proofs.LawfulLemmas.{report_lawful}
 use Rattle.vgd.proofs.run.forward.Goals as goal
 
@@ -35,7 +37,8 @@ write_capture-requires c =
     let capture = c.args.input.now.capture in
     let is : IsOutcome ip4_visit plan.graphs (first_generation plan.script capture) capture c.args.options.now c.in_ok-outcome.outcome = c.in_ok-outcome.ensures in
     let within : AreWithin (length (frames_of capture)) c.in-Ok.sent.items =
-    are_within plan.graphs (length (frames_of capture)) c.in-Ok.sent.items is.js (c.in-Ok.ensures.pairs ∙ is.are_sent) (own plan c.args.options.now capture c.in_ok-outcome.outcome is).0 c.in-Ok.ensures.short in
+    are_within plan.graphs (length (frames_of capture)) c.in-Ok.sent.items is.js (c.in-Ok.ensures ∙ is.are_sent) (own plan c.args.options.now capture c.in_ok-outcome.outcome is).0
+    (subst (AllByRecursion (λ (p : ℕ × List ℕ). length p.1 ≤ longest_packet)) is.are_sent is.short) in
     let by_count : AreWithin (length capture.packets) c.in-Ok.sent.items = subst (λ n. AreWithin n c.in-Ok.sent.items) (length-map capture.packets (λ p. p.bytes)) within in
     subst (AreWithin (length capture.packets)) (sym c.as_slice.ensures.value) by_count
 
@@ -46,6 +49,9 @@ report-requires-clause-ends c =
     let is : IsOutcome ip4_visit plan.graphs (first_generation plan.script capture) capture c.args.options.now c.in_ok-outcome.outcome = c.in_ok-outcome.ensures in
     fates_end c.in_ok-outcome.outcome.last is.last is.last.routes is.js c.in_ok-outcome.outcome.fates is.last_is is.are_fates is.ends
 
+pub report-requires-clause-traces : goal.report-requires-clause-traces
+report-requires-clause-traces c = traced_within c.args.input.now.plan c.args.options.now c.args.input.now.capture c.in_ok-outcome.outcome c.in_ok-outcome.ensures
+
 pub write_report-requires : goal.write_report-requires
 write_report-requires c =
     let plan = c.args.input.now.plan in
@@ -55,8 +61,8 @@ write_report-requires c =
     let made : c.in-Ok-report.report ≡ reported options (length plan.graphs) c.in_ok-outcome.outcome =
     c.in-Ok-report.ensures.report ∙ ap (λ n. reported options n c.in_ok-outcome.outcome) c.generations-generations.ensures.graphs in
     report_lawful (some_run options) plan.graphs (length (frames_of capture)) is.js c.in-Ok-report.report
-    (made ∙ reported_is plan options capture c.in_ok-outcome.outcome is (some_run options) refl c.requires.trace)
-    (reportable plan options capture c.in_ok-outcome.outcome is (some_run options) refl c.requires.trace c.requires.options c.generations-generations.ensures.plan
+    (made ∙ reported_is plan options capture c.in_ok-outcome.outcome is (some_run options) refl)
+    (reportable plan options capture c.in_ok-outcome.outcome is (some_run options) refl c.requires.options c.generations-generations.ensures.plan
     (sym c.generations-generations.ensures.graphs ∙ c.generations-generations.ensures.events) c.know_few.ensures)
     c.in-Ok-report.ensures.interfaces c.in-Ok-report.ensures.nodes
 
@@ -69,9 +75,9 @@ returns c =
     let made : c.in-Ok-report.report ≡ reported options (length plan.graphs) c.in_ok-outcome.outcome =
     c.in-Ok-report.ensures.report ∙ ap (λ n. reported options n c.in_ok-outcome.outcome) c.generations-generations.ensures.graphs in
     let saved : c.in_ok-tx.tx ≡ savefile capture c.in_ok-outcome.outcome.sent =
-    c.in_ok-tx.ensures ∙ (ap (λ (s : List Sent). savefile capture (pairs s)) c.as_slice.ensures.value ∙ ap (savefile capture) c.in-Ok.ensures.pairs) in
+    c.in_ok-tx.ensures ∙ (ap (λ (s : List Sent). savefile capture (pairs s)) c.as_slice.ensures.value ∙ ap (savefile capture) c.in-Ok.ensures) in
     record {
       report = c.in-Ok-report.report;
       is_text = c.in_ok-report.ensures;
-      output = λ run same. output_is plan options capture c.in_ok-outcome.outcome is c.in-Ok-report.report c.in_ok-tx.tx run same c.requires.worker c.requires.trace made saved;
+      output = λ run same. output_is plan options capture c.in_ok-outcome.outcome is c.in-Ok-report.report c.in_ok-tx.tx run same c.requires.worker made saved;
     }

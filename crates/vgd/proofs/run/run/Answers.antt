@@ -1,10 +1,10 @@
-use Rattle.std.proofs.Common.{◌≡◌, ◌∙◌, ap, subst, sym, inr, refl, [], ◌∷◌, length}
+use Rattle.std.proofs.Common.{◌≡◌, ◌∙◌, ap, subst, sym, inr, refl}
 use Rattle.std.specs.Prelude.{Some, option_map}
 use Rattle.vg_outside.specs.Files.{HoldsBytes, SameElsewhere, Rose}
 use Rattle.vg_words.specs.Command.{Run, texts}
 use Rattle.vg_words.specs.Shown.{run_shown}
 use Rattle.vgd.specs.declared.refusals.Refusal.TheVariants as refusals
-use Rattle.vgd.specs.Command.{run_asked, options_of}
+use Rattle.vgd.specs.Command.{run_asked}
 use Rattle.vgd.specs.Run.{Call}
 use Rattle.vgd.specs.Stops.{IsRefusedFor}
 use Rattle.vg_words.proofs.RangeLemmas.{runs-in_range}
