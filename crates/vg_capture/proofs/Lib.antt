@@ -4,3 +4,4 @@ pub mod LimitLemmas
 pub mod RoundTripLemmas
 pub mod TimeLemmas
 mod WriteLemmas
+mod PlaceLemmas

@@ -1,9 +1,7 @@
 -- Capture time.
-use Rattle.std.proofs.Common.{◌≡◌, ℕ, zero, suc, ◌<◌, ◌≤◌, List, length, get_or, Some, refl, subst, arith}
+use Rattle.std.proofs.Common.{◌≡◌, ℕ, zero, suc, ◌-◌, ◌≤◌, Some, sym, ap, ◌∙◌, arith}
 use Rattle.vg_capture.specs.declared.captures.Capture.{Capture}
-use Rattle.vg_capture.specs.declared.captures.Captured.{Captured}
-use Rattle.std.specs.Prelude.{slice_get}
-use Rattle.std.proofs.lemmas.Option.{slice_get_read}
+use Rattle.std.specs.Prelude.{slice_get, option_map, unwrap_or, max}
 use Rattle.vg_capture.specs.Time.{stamp, stamp_at, latest, time}
 
 -- the first packet's time is 0
@@ -22,10 +20,14 @@ latest-ge-first capture (suc i) =
     let rises : latest capture i ≤ latest capture (suc i) = let n = latest capture i in let m = stamp_at capture (suc i) in omega arith in
     omega arith
 
--- the time stamp of packet i is that of the packet that was read at i
-pub stamp_at-read : (capture : Capture) (packets : List Captured) (i : ℕ) (p : Captured) → packets ≡ capture.packets
-    → i < length packets → p ≡ get_or packets i p → stamp_at capture i ≡ stamp capture.nanos p
-stamp_at-read capture packets i p same below is =
-    let read : slice_get capture.packets i ≡ Some p =
-    subst (λ (ps : List Captured). slice_get ps i ≡ Some p) same (slice_get_read packets (length packets) i p refl below is) in
-    rw read
+-- the time stamp of a packet that was read
+pub stamp_read : (capture : Capture) (i read : ℕ) → option_map (stamp capture.nanos) (slice_get capture.packets i) ≡ Some read → stamp_at capture i ≡ read
+stamp_read capture i read e = ap (λ o. unwrap_or o 0) e
+
+-- the latest time stamp, with one more
+pub latest_more : (capture : Capture) (i read : ℕ) → 1 ≤ i → option_map (stamp capture.nanos) (slice_get capture.packets i) ≡ Some read
+    → latest capture i ≡ max (latest capture (i - 1)) read
+latest_more capture zero read h e = absurd (omega (arith, h))
+latest_more capture (suc i) read h e =
+    let before : suc i - 1 ≡ i = omega arith in
+    ap (λ s. max (latest capture i) s) (stamp_read capture (suc i) read e) ∙ ap (λ k. max (latest capture k) read) (sym before)

@@ -1,3 +1,4 @@
+pub mod Places
 pub mod Savefile
 pub mod RoundTrip
 pub mod Time

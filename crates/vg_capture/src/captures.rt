@@ -1,8 +1,10 @@
 //! Captured packets, and the packets sent of them.
-ghost use Rattle.std.specs.Prelude.{◌≡◌, ◌≤◌, length};
+ghost use Rattle.std.specs.Prelude.{◌≡◌, ◌+◌, ◌<◌, ◌≤◌, ◌∷◌, ◌++◌, [], take, drop, Some, IfOk, OnOk, length, option_map, slice_get};
+ghost use Rattle.vg_capture.specs.Places.{ArePlaces, captured_at, captured_in, marks_of};
 
+use std::alloc::Global;
 use std::marker::Model;
-use vg_model::Bytes;
+use vg_model::{Bytes, Memory};
 
 /// A captured packet: a record of a savefile.
 #[derive(Drop)]
@@ -18,47 +20,185 @@ pub struct Captured {
     pub bytes: Bytes,
 }
 
-/// The packets of a capture, at most [`MOST_PACKETS`].
+/// A captured packet's time stamp and its length on the wire, as [`Captured`] has them.
+#[derive(Clone, Copy)]
+pub struct Marks {
+    /// The time stamp's whole seconds.
+    pub seconds: u32,
+    /// The rest of the time stamp.
+    pub fraction: u32,
+    /// The packet's length on the wire in bytes.
+    pub original: u32,
+}
+
+// Where the bytes of a captured packet stand, and its marks.
+#[derive(Clone, Copy)]
+pub(crate) struct Place {
+    pub(crate) start: u32,
+    pub(crate) len: u32,
+    pub(crate) marks: Marks,
+}
+
+/// The packets of a capture, at most [`MOST_PACKETS`]. They are seen as the list of them.
+///
+/// The bytes of all of them stay where they were read: each packet is a place in them.
 #[derive(Drop)]
-pub struct Packets(Vec<Captured>);
+pub struct Packets {
+    bytes: Bytes,
+    places: Vec<Place>,
+}
 
 /// The most packets that a capture has.
 pub const MOST_PACKETS: usize = 65_536;
 
 impl Model for Packets {
-    ghost use Rattle.std.specs.Prelude.{List, ◌≤◌, length};
+    ghost use Rattle.std.specs.Prelude.{List};
     ghost use Rattle.vg_capture.specs.declared.captures.Captured.{Captured};
+    ghost use Rattle.vg_capture.specs.Places.{ArePlaces, captured_in};
 
     ghost Value = { List Captured };
 
-    ghost view = { λ p. p.0.items };
+    ghost view = { λ p. captured_in p.bytes p.places.items };
 
-    ghost invariant = { λ p. length p.0.items ≤ 65536 };
+    ghost invariant = { λ p. ArePlaces p.bytes p.places.items };
+}
+
+/// Packets of a capture that stand one behind the other. They are seen as the list of them.
+#[derive(Drop)]
+pub struct Stretch<'a> {
+    bytes: &'a [u8],
+    places: &'a [Place],
+}
+
+impl<'a> Model for Stretch<'a> {
+    ghost use Rattle.std.specs.Prelude.{List};
+    ghost use Rattle.vg_capture.specs.declared.captures.Captured.{Captured};
+    ghost use Rattle.vg_capture.specs.Places.{ArePlaces, captured_in};
+
+    ghost Value = { List Captured };
+
+    ghost view = { λ s. captured_in s.bytes.now s.places.now };
+
+    ghost invariant = { λ s. ArePlaces s.bytes.now s.places.now };
+}
+
+impl<'a> Stretch<'a> {
+    /// How many packets there are.
+    pub fn len(&self) -> usize
+        ensures count { result ≡ length self.now }
+        ensures few { length self.now ≤ MOST_PACKETS }
+    {
+        self.places.len()
+    }
+
+    /// The bytes that were captured of one of them.
+    pub fn bytes(&self, k: usize) -> &'a [u8]
+        requires { k < length self.now }
+        ensures { option_map (λ packet. packet.bytes) (slice_get self.now k) ≡ Some result.now }
+    {
+        let places = self.places;
+        let place = places[k];
+        let start = place.start as usize;
+        &self.bytes[start..start + place.len as usize]
+    }
 }
 
 impl Packets {
-    /// The list of these packets.
-    pub fn from_vec(packets: Vec<Captured>) -> Packets
-        requires { length packets.items ≤ MOST_PACKETS }
-        ensures { result ≡ packets.items }
+    // The packets at these places of the bytes.
+    pub(crate) fn from_places(bytes: Bytes, places: Vec<Place>) -> Packets
+        requires { ArePlaces bytes places.items }
+        ensures { result ≡ captured_in bytes places.items }
     {
-        Packets(packets)
+        Packets { bytes, places }
     }
 
-    /// The packets as a slice.
-    pub fn as_slice(&self) -> &[Captured]
-        ensures packets { result.now ≡ self.now }
-        ensures few { length result.now ≤ MOST_PACKETS }
+    /// These packets. Their bytes are copied.
+    ///
+    /// # Errors
+    ///
+    /// [`Memory`] where memory runs out, or the packets have 2^32 bytes or more.
+    pub fn of(alloc: Global, packets: &[Captured]) -> Result<Packets, Memory>
+        requires { length packets.now ≤ MOST_PACKETS }
+        ensures { IfOk result (λ made. made ≡ packets.now) }
     {
-        self.0.as_slice()
+        let mut bytes = Vec::new(alloc);
+        let mut places = Vec::new(alloc);
+        for packet in packets {
+            add(&mut bytes, &mut places, packet)?;
+        }
+        Ok(Packets {
+            bytes: Bytes::from_vec(bytes),
+            places,
+        })
     }
 
-    /// The packets as a vector.
-    pub fn into_vec(self) -> Vec<Captured>
-        ensures packets { result.items ≡ self }
-        ensures few { length result.items ≤ MOST_PACKETS }
+    /// How many packets there are.
+    pub fn len(&self) -> usize
+        ensures count { result ≡ length self.now }
+        ensures few { length self.now ≤ MOST_PACKETS }
     {
-        self.0
+        self.places.len()
+    }
+
+    /// So many packets, from the one of this number on.
+    pub fn stretch(&self, from: usize, count: usize) -> Stretch<'_>
+        requires { from + count ≤ length self.now }
+        ensures { result ≡ take count (drop from self.now) }
+    {
+        Stretch {
+            bytes: self.bytes.as_slice(),
+            places: &self.places[from..from + count],
+        }
+    }
+
+    /// The bytes that were captured of a packet.
+    pub fn bytes(&self, number: usize) -> &[u8]
+        requires { number < length self.now }
+        ensures { option_map (λ packet. packet.bytes) (slice_get self.now number) ≡ Some result.now }
+    {
+        let place = self.places[number];
+        let start = place.start as usize;
+        &self.bytes.as_slice()[start..start + place.len as usize]
+    }
+
+    /// The time stamp of a packet and its length on the wire.
+    pub fn marks(&self, number: usize) -> Marks
+        requires { number < length self.now }
+        ensures { option_map marks_of (slice_get self.now number) ≡ Some result }
+    {
+        self.places[number].marks
+    }
+}
+
+// Adds a packet behind the others: its bytes, and its place in them.
+fn add(bytes: &mut Vec<u8>, places: &mut Vec<Place>, packet: &Captured) -> Result<(), Memory>
+    requires few { length places.old.items < MOST_PACKETS }
+    requires places { ArePlaces bytes.old.items places.old.items }
+    ensures packets { OnOk result (captured_in bytes.new.items places.new.items ≡ captured_in bytes.old.items places.old.items ++ packet.now ∷ []) }
+    ensures places { OnOk result (ArePlaces bytes.new.items places.new.items) }
+{
+    let more = packet.bytes.as_slice();
+    let Ok(start) = u32::try_from(bytes.len()) else {
+        return Err(Memory);
+    };
+    let Ok(len) = u32::try_from(more.len()) else {
+        return Err(Memory);
+    };
+    if bytes.extend_from_slice(more).is_err() {
+        return Err(Memory);
+    }
+    let place = Place {
+        start,
+        len,
+        marks: Marks {
+            seconds: packet.seconds,
+            fraction: packet.fraction,
+            original: packet.original,
+        },
+    };
+    match places.push(place) {
+        Ok(()) => Ok(()),
+        Err(_) => Err(Memory),
     }
 }
 

@@ -9,11 +9,11 @@ mod reading;
 pub mod times;
 mod writing;
 
-pub use captures::{Capture, Captured, MOST_PACKETS, Packets, Sent};
+pub use captures::{Capture, Captured, MOST_PACKETS, Marks, Packets, Sent, Stretch};
 pub use errors::CaptureError;
 pub use layout::{LARGEST_FILE, LONGEST_RECORD};
 pub use reading::read_capture;
-pub use writing::write_capture;
+pub use writing::{Savefile, write_capture};
 
 #[cfg(test)]
 mod tests;

@@ -1,8 +1,9 @@
 //! Reading a savefile.
-ghost use Rattle.std.specs.Prelude.{◌≡◌, ◌+◌, ◌≤◌, length};
+ghost use Rattle.std.specs.Prelude.{◌≡◌, ◌+◌, ◌≤◌, Err, Ok, IfOk, MatchResult, drop, length};
+ghost use Rattle.vg_capture.specs.Places.{ArePlaces, captured_in};
 ghost use Rattle.vg_capture.specs.Savefile.{AnswersRead, IsUnlessMemory, unit_of, number16, number32, capture_in, records_of};
 
-use crate::captures::{Capture, Captured, MOST_PACKETS, Packets};
+use crate::captures::{Capture, MOST_PACKETS, Marks, Packets, Place};
 use crate::errors::CaptureError;
 use crate::layout::{
     FILE_HEADER_LEN, LARGEST_FILE, LINKTYPE_ETHERNET, LONGEST_RECORD, MAGIC_LEN, MAJOR_VERSION,
@@ -18,19 +19,24 @@ use vg_model::Bytes;
 /// first check that fails, in this order: the file's size, its magic number, its whole header, the
 /// version, the link type, and for each record the number of records, its whole header, its
 /// captured length, its whole bytes. `Memory` may come in place of any answer.
-pub fn read_capture(alloc: Global, file: &[u8]) -> Result<Capture, CaptureError>
-    ensures { AnswersRead file.now result }
+///
+/// The capture keeps the file's bytes.
+pub fn read_capture(alloc: Global, file: Bytes) -> Result<Capture, CaptureError>
+    ensures { AnswersRead file result }
 {
-    if file.len() > LARGEST_FILE {
+    let bytes = file.as_slice();
+    if bytes.len() > LARGEST_FILE {
         return Err(CaptureError::TooLarge);
     }
-    if file.len() < MAGIC_LEN {
+    if bytes.len() < MAGIC_LEN {
         return Err(CaptureError::Truncated { offset: 0 });
     }
-    if let Some(nanos) = nanos_of(LittleEndian::read_u32(file)) {
+    let little = nanos_of(LittleEndian::read_u32(bytes));
+    let big = nanos_of(BigEndian::read_u32(bytes));
+    if let Some(nanos) = little {
         return read_in_order::<LittleEndian>(alloc, nanos, file);
     }
-    if let Some(nanos) = nanos_of(BigEndian::read_u32(file)) {
+    if let Some(nanos) = big {
         return read_in_order::<BigEndian>(alloc, nanos, file);
     }
     Err(CaptureError::NotPcap)
@@ -67,42 +73,59 @@ fn u32_at<T: ByteOrder>(bytes: &[u8], place: usize) -> u32
 fn read_in_order<T: ByteOrder>(
     alloc: Global,
     nanos: bool,
-    file: &[u8],
+    file: Bytes,
 ) -> Result<Capture, CaptureError>
-    requires { length file.now ≤ LARGEST_FILE }
-    ensures { IsUnlessMemory (capture_in T.number_of nanos file.now) result }
+    requires { length file ≤ LARGEST_FILE }
+    ensures { IsUnlessMemory (capture_in T.number_of nanos file) result }
 {
-    if file.len() < FILE_HEADER_LEN {
+    let bytes = file.as_slice();
+    if bytes.len() < FILE_HEADER_LEN {
         return Err(CaptureError::Truncated { offset: 0 });
     }
-    let major = u16_at::<T>(file, 4);
-    let minor = u16_at::<T>(file, 6);
+    let major = u16_at::<T>(bytes, 4);
+    let minor = u16_at::<T>(bytes, 6);
     if major != MAJOR_VERSION || minor != MINOR_VERSION {
         return Err(CaptureError::Version { major, minor });
     }
-    let link_type = u32_at::<T>(file, 20);
+    let link_type = u32_at::<T>(bytes, 20);
     if link_type != LINKTYPE_ETHERNET {
         return Err(CaptureError::LinkType(link_type));
     }
-    let (_, records) = file.split_at(FILE_HEADER_LEN);
     Ok(Capture {
         nanos,
-        snaplen: u32_at::<T>(file, 16),
-        packets: read_records::<T>(alloc, records)?,
+        snaplen: u32_at::<T>(bytes, 16),
+        packets: read_records::<T>(alloc, file)?,
     })
 }
 
 /// The packets of the records that stand behind the file's header.
-fn read_records<T: ByteOrder>(alloc: Global, records: &[u8]) -> Result<Packets, CaptureError>
-    requires { length records.now ≤ LARGEST_FILE }
-    ensures { IsUnlessMemory (records_of T.number_of records.now) result }
+fn read_records<T: ByteOrder>(alloc: Global, file: Bytes) -> Result<Packets, CaptureError>
+    requires header { FILE_HEADER_LEN ≤ length file }
+    requires small { length file ≤ LARGEST_FILE }
+    ensures { IsUnlessMemory (records_of T.number_of (drop FILE_HEADER_LEN file)) result }
 {
-    let mut packets = Vec::new(alloc);
+    match read_places::<T>(alloc, file.as_slice()) {
+        Ok(places) => Ok(Packets::from_places(file, places)),
+        Err(error) => Err(error),
+    }
+}
+
+/// Where in a file the packets of its records stand.
+fn read_places<T: ByteOrder>(alloc: Global, file: &[u8]) -> Result<Vec<Place>, CaptureError>
+    requires header { FILE_HEADER_LEN ≤ length file.now }
+    requires small { length file.now ≤ LARGEST_FILE }
+    ensures read { MatchResult result
+        (λ places. records_of T.number_of (drop FILE_HEADER_LEN file.now) ≡ Ok (captured_in file.now places.items))
+        (λ error. IsUnlessMemory (records_of T.number_of (drop FILE_HEADER_LEN file.now)) (Err error)) }
+    ensures places { IfOk result (λ places. ArePlaces file.now places.items) }
+{
+    let (_, records) = file.split_at(FILE_HEADER_LEN);
+    let mut places = Vec::new(alloc);
     let mut place = FILE_HEADER_LEN;
     let mut rest = records;
     while !rest.is_empty() {
         let offset = place as u32;
-        if packets.len() == MOST_PACKETS {
+        if places.len() == MOST_PACKETS {
             return Err(CaptureError::TooManyPackets { offset });
         }
         if rest.len() < RECORD_HEADER_LEN {
@@ -118,21 +141,21 @@ fn read_records<T: ByteOrder>(alloc: Global, records: &[u8]) -> Result<Packets, 
                 offset: (place + RECORD_HEADER_LEN) as u32,
             });
         }
-        let (data, others) = body.split_at(len);
-        let Ok(copy) = Vec::from_slice(alloc, data) else {
-            return Err(CaptureError::Memory);
+        let (_, others) = body.split_at(len);
+        let captured = Place {
+            start: (place + RECORD_HEADER_LEN) as u32,
+            len: len as u32,
+            marks: Marks {
+                seconds: u32_at::<T>(rest, 0),
+                fraction: u32_at::<T>(rest, 4),
+                original: u32_at::<T>(rest, 12),
+            },
         };
-        let captured = Captured {
-            seconds: u32_at::<T>(rest, 0),
-            fraction: u32_at::<T>(rest, 4),
-            original: u32_at::<T>(rest, 12),
-            bytes: Bytes::from_vec(copy),
-        };
-        let Ok(()) = packets.push(captured) else {
+        let Ok(()) = places.push(captured) else {
             return Err(CaptureError::Memory);
         };
         place += RECORD_HEADER_LEN + len;
         rest = others;
     }
-    Ok(Packets::from_vec(packets))
+    Ok(places)
 }

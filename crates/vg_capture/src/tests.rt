@@ -31,6 +31,14 @@ fn zeros_up_to(alloc: Global, len: usize) -> Result<Vec<u8>, Fail> {
     Ok(file)
 }
 
+/// The capture of a file.
+fn read(alloc: Global, file: &[u8]) -> Result<Capture, CaptureError> {
+    match file.to_vec(alloc) {
+        Ok(file) => read_capture(alloc, Bytes::from_vec(file)),
+        Err(_) => Err(CaptureError::Memory),
+    }
+}
+
 /// The savefile in which one packet of a capture was sent.
 fn written(
     rt: &impl Abort,
@@ -39,7 +47,7 @@ fn written(
     number: u32,
     bytes: &[u8],
 ) -> Result<Vec<u8>, Fail> {
-    assert!(rt; (number as usize) < capture.packets.as_slice().len());
+    assert!(rt; (number as usize) < capture.packets.len());
     assert!(rt; bytes.len() < 100);
     let sent = [Sent {
         number,
@@ -50,15 +58,16 @@ fn written(
 
 #[test]
 fn reads_and_writes_big_endian_nanoseconds(rt: HostRuntime) -> Result<(), Fail> {
-    let capture = read_capture(rt.alloc(), &BIG_ENDIAN)?;
+    let capture = read(rt.alloc(), &BIG_ENDIAN)?;
     assert!(rt; capture.nanos);
     assert_eq!(rt; capture.snaplen, 65_535);
-    let packets = capture.packets.as_slice();
+    let packets = &capture.packets;
     assert_eq!(rt; packets.len(), 1);
-    assert_eq!(rt; packets[0].seconds, 1);
-    assert_eq!(rt; packets[0].fraction, 999_999_999);
-    assert_eq!(rt; packets[0].original, 60);
-    assert_eq!(rt; packets[0].bytes.as_slice(), [7, 8, 9].as_slice());
+    let marks = packets.marks(0);
+    assert_eq!(rt; marks.seconds, 1);
+    assert_eq!(rt; marks.fraction, 999_999_999);
+    assert_eq!(rt; marks.original, 60);
+    assert_eq!(rt; packets.bytes(0), [7, 8, 9].as_slice());
 
     let file = written(&rt, rt.alloc(), &capture, 0, &[5, 6])?;
     let expected = [
@@ -74,15 +83,15 @@ fn an_empty_capture_is_its_header(rt: HostRuntime) -> Result<(), Fail> {
     let capture = Capture {
         nanos: false,
         snaplen: 262_144,
-        packets: Packets::from_vec(Vec::new(rt.alloc())),
+        packets: Packets::of(rt.alloc(), &[])?,
     };
     let file = write_capture(rt.alloc(), &capture, &[])?;
     assert_eq!(rt; file.as_slice(), HEADER.as_slice());
 
-    let capture = read_capture(rt.alloc(), file.as_slice())?;
+    let capture = read(rt.alloc(), file.as_slice())?;
     assert!(rt; !capture.nanos);
     assert_eq!(rt; capture.snaplen, 262_144);
-    assert_eq!(rt; capture.packets.into_vec().len(), 0);
+    assert_eq!(rt; capture.packets.len(), 0);
     Ok(())
 }
 
@@ -109,18 +118,21 @@ fn each_refusal_names_its_place(rt: HostRuntime) -> Result<(), Fail> {
         (&large, CaptureError::TooLarge),
     ];
     for (file, expected) in cases {
-        assert_eq!(rt; read_capture(rt.alloc(), file).err(), Some(expected));
+        assert_eq!(rt; read(rt.alloc(), file).err(), Some(expected));
     }
     Ok(())
 }
 
 #[test]
 fn as_many_packets_as_may_be(rt: HostRuntime) -> Result<(), Fail> {
-    let capture = read_capture(rt.alloc(), &zeros_up_to(rt.alloc(), 1_048_600)?)?;
-    assert_eq!(rt; capture.packets.as_slice().len(), 65_536);
+    let capture = read_capture(
+        rt.alloc(),
+        Bytes::from_vec(zeros_up_to(rt.alloc(), 1_048_600)?),
+    )?;
+    assert_eq!(rt; capture.packets.len(), 65_536);
 
     let mut file = zeros_up_to(rt.alloc(), 1_048_616)?;
-    let refused = read_capture(rt.alloc(), &file).err();
+    let refused = read(rt.alloc(), &file).err();
     assert_eq!(rt;
         refused,
         Some(CaptureError::TooManyPackets { offset: 1_048_600 })
@@ -128,7 +140,7 @@ fn as_many_packets_as_may_be(rt: HostRuntime) -> Result<(), Fail> {
 
     assert!(rt; file.len() > 34);
     file[34] = 5;
-    let refused = read_capture(rt.alloc(), &file).err();
+    let refused = read(rt.alloc(), &file).err();
     assert_eq!(rt; refused, Some(CaptureError::RecordTooLong { offset: 24 }));
     Ok(())
 }
@@ -153,7 +165,7 @@ fn capture_at(
     Ok(Capture {
         nanos,
         snaplen: 262_144,
-        packets: Packets::from_vec(packets),
+        packets: Packets::of(alloc, packets.as_slice())?,
     })
 }
 
@@ -202,7 +214,7 @@ fn each_magic_has_its_order_and_unit(rt: HostRuntime) -> Result<(), Fail> {
     for (magic, nanos) in magics {
         let mut file = HEADER;
         file[..4].copy_from_slice(&magic);
-        let capture = read_capture(rt.alloc(), &file)?;
+        let capture = read(rt.alloc(), &file)?;
         assert_eq!(rt; capture.nanos, nanos);
         assert_eq!(rt; capture.snaplen, 262_144);
     }
@@ -214,7 +226,7 @@ fn each_magic_has_its_order_and_unit(rt: HostRuntime) -> Result<(), Fail> {
     for (magic, nanos) in magics {
         let mut file = BIG_ENDIAN;
         file[..4].copy_from_slice(&magic);
-        let capture = read_capture(rt.alloc(), &file)?;
+        let capture = read(rt.alloc(), &file)?;
         assert_eq!(rt; capture.nanos, nanos);
         assert_eq!(rt; capture.snaplen, 65_535);
     }

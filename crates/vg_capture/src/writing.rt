@@ -1,8 +1,9 @@
 //! Writing a savefile.
-ghost use Rattle.std.specs.Prelude.{◌≡◌, ◌++◌, ◌<◌, ◌^◌, OnOk, IfOk, length, flat_map};
-ghost use Rattle.vg_capture.specs.Savefile.{AreWithin, file_header, pairs, record_of, savefile, sent_in};
+ghost use Rattle.std.specs.Prelude.{◌≡◌, ◌++◌, ◌<◌, ◌^◌, OnOk, IfOk, length};
+ghost use Rattle.vg_capture.specs.Places.{head_of};
+ghost use Rattle.vg_capture.specs.Savefile.{AreWithin, file_header, pairs, savefile, sent_in};
 
-use crate::captures::{Capture, Captured, Sent};
+use crate::captures::{Capture, Marks, Sent};
 use crate::layout::{
     FILE_HEADER_LEN, LINKTYPE_ETHERNET, MAJOR_VERSION, MICROSECONDS_MAGIC, MINOR_VERSION,
     NANOSECONDS_MAGIC, RECORD_HEADER_LEN,
@@ -10,8 +11,71 @@ use crate::layout::{
 use byteorder::{LittleEndian, WriteBytesExt};
 use std::alloc::Global;
 use std::io;
-use std::io::Write;
+use std::marker::Model;
 use vg_model::{Bytes, Memory};
+
+/// A savefile (pcap-savefile(5)) that is being written, little-endian. It is seen as its bytes so far.
+#[derive(Drop)]
+pub struct Savefile {
+    bytes: Vec<u8>,
+}
+
+impl Model for Savefile {
+    ghost use Rattle.std.specs.Prelude.{List, ℕ};
+
+    ghost Value = { List ℕ };
+
+    ghost view = { λ file. file.bytes.items };
+}
+
+impl Savefile {
+    /// The length in bytes of a savefile with records for so many packets that have so many bytes in all.
+    pub const fn room(packets: usize, bytes: usize) -> usize {
+        packets
+            .saturating_mul(RECORD_HEADER_LEN)
+            .saturating_add(bytes)
+            .saturating_add(FILE_HEADER_LEN)
+    }
+
+    /// The header of a capture's file, with room for so many bytes in all.
+    ///
+    /// # Errors
+    ///
+    /// [`Memory`] where memory runs out.
+    pub fn begin(alloc: Global, capture: &Capture, room: usize) -> Result<Savefile, Memory>
+        ensures { IfOk result (λ file. file ≡ file_header capture.now) }
+    {
+        let Ok(mut bytes) = Vec::with_capacity(alloc, room) else {
+            return Err(Memory);
+        };
+        match put_header(&mut bytes, capture) {
+            Ok(()) => Ok(Savefile { bytes }),
+            Err(_) => Err(Memory),
+        }
+    }
+
+    /// Appends the record of a packet that was sent: the time stamp and the original length of the captured packet with the
+    /// number, and the bytes that were sent.
+    ///
+    /// # Errors
+    ///
+    /// [`Memory`] where memory runs out.
+    pub fn put(&mut self, capture: &Capture, number: u32, bytes: &[u8]) -> Result<(), Memory>
+        requires number { number < length capture.now.packets }
+        requires len { length bytes.now < 2 ^ 32 }
+        ensures { OnOk result (self.new ≡ self.old ++ sent_in capture.now.packets (number, bytes.now)) }
+    {
+        let head = head(capture.packets.marks(number as usize), bytes.len() as u32);
+        put_record(&mut self.bytes, &head, bytes)
+    }
+
+    /// The whole file.
+    pub fn end(self) -> Bytes
+        ensures { result ≡ self }
+    {
+        Bytes::from_vec(self.bytes)
+    }
+}
 
 /// Writes the savefile (pcap-savefile(5)) of the packets sent of a capture, little-endian.
 ///
@@ -23,32 +87,20 @@ pub fn write_capture(alloc: Global, capture: &Capture, sent: &[Sent]) -> Result<
     requires { AreWithin (length capture.now.packets) sent.now }
     ensures { IfOk result (λ bytes. bytes ≡ savefile capture.now (pairs sent.now)) }
 {
-    match write_bytes(alloc, capture, sent) {
-        Ok(bytes) => Ok(Bytes::from_vec(bytes)),
-        Err(_) => Err(Memory),
+    let mut file = Savefile::begin(alloc, capture, savefile_len(sent))?;
+    for one in sent {
+        file.put(capture, one.number, one.bytes.as_slice())?;
     }
-}
-
-/// The savefile's bytes.
-fn write_bytes(alloc: Global, capture: &Capture, sent: &[Sent]) -> io::Result<Vec<u8>>
-    requires { AreWithin (length capture.now.packets) sent.now }
-    ensures { IfOk result (λ bytes. bytes.items ≡ savefile capture.now (pairs sent.now)) }
-{
-    let mut out = Vec::with_capacity(alloc, savefile_len(sent))?;
-    put_header(&mut out, capture)?;
-    put_sent(&mut out, capture.packets.as_slice(), sent)?;
-    Ok(out)
+    Ok(file.end())
 }
 
 /// The length of the savefile in bytes, for which room is made.
 fn savefile_len(sent: &[Sent]) -> usize {
-    let mut len = FILE_HEADER_LEN;
+    let mut bytes: usize = 0;
     for one in sent {
-        len = len
-            .saturating_add(RECORD_HEADER_LEN)
-            .saturating_add(one.bytes.as_slice().len());
+        bytes = bytes.saturating_add(one.bytes.as_slice().len());
     }
-    len
+    Savefile::room(sent.len(), bytes)
 }
 
 /// Appends the file's header.
@@ -70,25 +122,43 @@ fn put_header(out: &mut Vec<u8>, capture: &Capture) -> io::Result<()>
     out.write_u32::<LittleEndian>(LINKTYPE_ETHERNET)
 }
 
-/// Appends the record of a packet that was sent with these bytes.
-fn put_record(out: &mut Vec<u8>, captured: &Captured, bytes: &[u8]) -> io::Result<()>
-    requires { length bytes.now < 2 ^ 32 }
-    ensures { OnOk result (out.new.items ≡ out.old.items ++ record_of captured.now bytes.now) }
+/// The header of a record with so many bytes.
+fn head(marks: Marks, len: u32) -> [u8; RECORD_HEADER_LEN]
+    ensures { result ≡ head_of marks len }
 {
-    out.write_u32::<LittleEndian>(captured.seconds)?;
-    out.write_u32::<LittleEndian>(captured.fraction)?;
-    out.write_u32::<LittleEndian>(bytes.len() as u32)?;
-    out.write_u32::<LittleEndian>(captured.original)?;
-    out.write_all(bytes)
+    let seconds = marks.seconds.to_le_bytes();
+    let fraction = marks.fraction.to_le_bytes();
+    let captured = len.to_le_bytes();
+    let original = marks.original.to_le_bytes();
+    [
+        seconds[0],
+        seconds[1],
+        seconds[2],
+        seconds[3],
+        fraction[0],
+        fraction[1],
+        fraction[2],
+        fraction[3],
+        captured[0],
+        captured[1],
+        captured[2],
+        captured[3],
+        original[0],
+        original[1],
+        original[2],
+        original[3],
+    ]
 }
 
-/// Appends the records of the packets that were sent.
-fn put_sent(out: &mut Vec<u8>, packets: &[Captured], sent: &[Sent]) -> io::Result<()>
-    requires { AreWithin (length packets.now) sent.now }
-    ensures { OnOk result (out.new.items ≡ out.old.items ++ flat_map (sent_in packets.now) (pairs sent.now)) }
+/// Appends a record: its header, and then its bytes.
+fn put_record(out: &mut Vec<u8>, head: &[u8], bytes: &[u8]) -> Result<(), Memory>
+    ensures { OnOk result (out.new.items ≡ out.old.items ++ head.now ++ bytes.now) }
 {
-    for one in sent {
-        put_record(out, &packets[one.number as usize], one.bytes.as_slice())?;
+    if out.extend_from_slice(head).is_err() {
+        return Err(Memory);
     }
-    Ok(())
+    match out.extend_from_slice(bytes) {
+        Ok(()) => Ok(()),
+        Err(_) => Err(Memory),
+    }
 }

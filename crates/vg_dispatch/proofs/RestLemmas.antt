@@ -1,8 +1,9 @@
 -- From one rest of a worker to the next.
 use Rattle.std.proofs.Common.{◌≡◌, ℕ, zero, suc, ◌+◌, ◌-◌, ◌<◌, ◌≤◌, ◌^◌, cond, List, [], ◌∷◌, ◌++◌, length, map, get_or, take, drop, refl, sym, ap, subst, ◌∙◌, arith, inl, inr}
-use Rattle.std.specs.Prelude.{Option, Some, None, is_some, option_map, unwrap_or, slice_index, replicate, min, Vec, vec_len, flat_map, ◌==◌, if◌then◌else◌}
+use Rattle.std.specs.Prelude.{Option, Some, None, is_some, option_map, unwrap_or, slice_get, slice_index, replicate, min, Vec, vec_len, flat_map, ◌==◌, if◌then◌else◌}
 use Rattle.std.specs.List.{sum_by, count_by, AllByRecursion, enumerate_from}
-use Rattle.std.proofs.lemmas.List.{append-nil, get_or_past, map_push, length-map, length-take, length-drop, take_all, take_more, drop_all, drop-drop}
+use Rattle.std.proofs.lemmas.Option.{slice_get-get_or}
+use Rattle.std.proofs.lemmas.List.{append-nil, get_or_default, get_or_past, map_push, length-map, length-take, length-drop, take_all, take_more, drop_all, drop-drop}
 use Rattle.std.proofs.lemmas.List.FromFn.{length-enumerate_from}
 use Rattle.std.proofs.lemmas.List.Sums.{sum_by-cons, sum_by-append, sum_by_more, sum_by-take-le, sum_by-take-drop, count_by-le-length}
 use Rattle.vg_model.specs.Graph.{Graph}
@@ -442,9 +443,23 @@ no_buffer_left s w held none =
     omega (arith, all_of, pending_none)
 
 -- of bytes from a place on there are no more than in all
-pub bytes_behind : (k : ℕ) (packets items : List Captured) → items ≡ packets → captured_bytes (take (length items - k) (drop k items)) ≡ captured_bytes (drop k packets)
-bytes_behind k packets items is =
-    ap captured_bytes (take_all (length items - k) (drop k items) (let e = length-drop k items in omega (arith, e))) ∙ ap (λ xs. captured_bytes (drop k xs)) is
-
 pub bytes_behind_most : (k : ℕ) (packets : List Captured) → captured_bytes (drop k packets) ≤ captured_bytes packets
 bytes_behind_most k packets = let e = sum_by-take-drop (λ (c : Captured). length c.bytes) packets k in omega (arith, e)
+
+-- a packet, by the bytes that were read at its place
+pub captured_there : (packets : List Captured) (k : ℕ) (bytes : List ℕ) → k < length packets
+    → option_map (λ (packet : Captured). packet.bytes) (slice_get packets k) ≡ Some bytes → (captured : Captured) × (captured ≡ get_or packets k captured) × (bytes ≡ captured.bytes)
+captured_there packets k bytes inside read =
+    let none : Captured = record { seconds = 0; fraction = 0; original = 0; bytes = [] } in
+    let captured : Captured = get_or packets k none in
+    let found : option_map (λ (packet : Captured). packet.bytes) (slice_get packets k) ≡ Some captured.bytes =
+    ap (option_map (λ (packet : Captured). packet.bytes)) (slice_get-get_or packets k none inside) in
+    let same : Some bytes ≡ Some captured.bytes = sym read ∙ found in
+    (captured, get_or_default packets k none captured inside, (let e : bytes ≡ captured.bytes = cc in e))
+
+-- the bytes of all packets, and of those from one on, by the stretches that were counted
+pub whole_bytes : (packets : List Captured) (n : ℕ) → n ≡ length packets → captured_bytes (take n (drop 0 packets)) ≡ captured_bytes packets
+whole_bytes packets n is = ap captured_bytes (take_all n packets (omega (arith, is)))
+
+pub rest_bytes : (packets : List Captured) (n k : ℕ) → n ≡ length packets → captured_bytes (take (n - k) (drop k packets)) ≡ captured_bytes (drop k packets)
+rest_bytes packets n k is = ap captured_bytes (take_all (n - k) (drop k packets) (let e = length-drop k packets in omega (arith, e, is)))

@@ -1,5 +1,5 @@
 //! A worker's rounds.
-ghost use Rattle.std.specs.Prelude.{◌≡◌, ◌+◌, ◌<◌, ◌≤◌, ◌^◌, length, take, drop, IfOk, IfSome};
+ghost use Rattle.std.specs.Prelude.{◌≡◌, ◌+◌, ◌<◌, ◌≤◌, ◌^◌, length, IfOk, IfSome};
 ghost use Rattle.vg_model.specs.Valid.{IsValid};
 ghost use Rattle.vg_fork.specs.Forked.{IsForked};
 ghost use Rattle.vg_dispatch.specs.Progress.{AreInRange, IsAlone, IsOwnCapture, captured_bytes, draws, begun, most_counted};
@@ -11,7 +11,7 @@ use crate::underway::Work;
 use std::alloc::Global;
 use std::marker::Model;
 use std::sync::ledger::Ledger;
-use vg_capture::{Capture, Captured};
+use vg_capture::{Capture, Stretch};
 use vg_counters::{Counters, Trace};
 use vg_fork::Fork;
 use vg_model::{Fates, Leg, Memory};
@@ -63,24 +63,14 @@ impl<K: KindSet> Model for Core<K> {
 }
 
 // How many bytes the packets have; `None` where no number says it.
-fn total_bytes(packets: &[Captured]) -> Option<usize>
+fn total_bytes(packets: &Stretch<'_>) -> Option<usize>
     ensures { IfSome result (λ total. total ≡ captured_bytes packets.now) }
 {
     let mut total: usize = 0;
-    for captured in packets {
-        total = total.checked_add(captured.bytes.as_slice().len())?;
+    for place in 0..packets.len() {
+        total = total.checked_add(packets.bytes(place).len())?;
     }
     Some(total)
-}
-
-// So many packets, from the one of this number on.
-fn stretch(packets: &[Captured], mark: u32, count: u32) -> &[Captured]
-    requires { mark + count ≤ length packets.now }
-    ensures { result.now ≡ take count (drop mark packets.now) }
-{
-    let (_, rest) = packets.split_at(mark as usize);
-    let (front, _) = rest.split_at(count as usize);
-    front
 }
 
 // The graph of a fork keeps the limits.
@@ -108,23 +98,23 @@ impl<K: KindSet> Core<K> {
     ) -> Result<Core<K>, Memory>
         ensures { IfOk result (λ core. core ≡ begun number options.now capture.now) }
     {
-        let packets = capture.packets.as_slice();
-        let first = (number as usize).min(packets.len());
-        let Some(bytes) = total_bytes(packets) else {
+        let packets = capture.packets.len();
+        let first = (number as usize).min(packets);
+        let Some(bytes) = total_bytes(&capture.packets.stretch(0, packets)) else {
             return Err(Memory);
         };
-        let Some(left) = total_bytes(&packets[first..]) else {
+        let Some(left) = total_bytes(&capture.packets.stretch(first, packets - first)) else {
             return Err(Memory);
         };
-        let traced = options.trace.min(packets.len() as u32);
+        let traced = options.trace.min(packets as u32);
         Ok(Core {
             number,
             options: *options,
             kinds,
-            packets: packets.len() as u32,
+            packets: packets as u32,
             mark: u32::from(number),
             left,
-            work: Work::new(alloc, packets.len(), bytes, traced)?,
+            work: Work::new(alloc, packets, bytes, traced)?,
             sorted: Sorted::new(alloc)?,
         })
     }
@@ -169,14 +159,14 @@ impl<K: KindSet> Core<K> {
         know_fork(fork);
         let below = limit.saturating_sub(self.mark);
         let count = self.options.burst.min(below.min(cache.len()));
-        let packets = stretch(capture.packets.as_slice(), self.mark, count);
+        let packets = capture.packets.stretch(self.mark as usize, count as usize);
         let leg = Leg {
             worker: self.number,
             generation: fork.generation(),
         };
         let bytes = self
             .work
-            .draw_all::<K, T, G>(fork, leg, self.mark, packets, cache);
+            .draw_all::<K, T, G>(fork, leg, self.mark, &packets, cache);
         self.mark += count;
         self.left -= bytes;
         self.work

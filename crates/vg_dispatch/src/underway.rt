@@ -13,7 +13,7 @@ ghost use Rattle.vg_dispatch.specs.Underway.{alone, contents_at, IsSetting};
 use crate::sent::SentEntry;
 use std::alloc::Global;
 use std::sync::ledger::Ledger;
-use vg_capture::Captured;
+use vg_capture::Stretch;
 use vg_counters::{Counters, Trace};
 use vg_fork::Fork;
 use vg_frame::{BufferMemory, Frame, FrameStore, MOST_NODES};
@@ -309,7 +309,7 @@ impl Work {
         fork: &Fork,
         leg: Leg,
         mark: u32,
-        packets: &[Captured],
+        packets: &Stretch<'_>,
         cache: &mut Cache<T, G>,
     ) -> usize
         requires setting { IsSetting (alone K.meaning fork.now.graph fork.now.generation) }
@@ -321,8 +321,8 @@ impl Work {
         ensures bytes { result ≡ captured_bytes packets.now }
     {
         let mut total = 0;
-        'packets: for (place, captured) in packets.iter().enumerate() {
-            let bytes = captured.bytes.as_slice();
+        'packets: for place in 0..packets.len() {
+            let bytes = packets.bytes(place);
             self.draw(fork, leg, mark + place as u32, bytes, cache);
             total += bytes.len();
         }

@@ -31,6 +31,22 @@ pub(crate) struct Station<K: KindSet, T: PoolLedger, G: Ledger> {
     caches: Vec<Cache<T, G>>,
 }
 
+// The fork of main's graph under a generation, in the memory of a fork before it where there was one.
+fn next_fork(
+    alloc: Global,
+    master: &Master,
+    generation: u32,
+    kept: Option<Fork>,
+) -> Result<Fork, Memory>
+    ensures fork { IfOk result (λ fork. fork ≡ record { graph = master.now; generation = generation }) }
+    ensures sound { IfOk result (λ fork. IsGeneration fork.graph) }
+{
+    match kept {
+        Some(fork) => fork.renewed(alloc, master.graph(), master.fib(), generation),
+        None => Fork::of(alloc, master.graph(), master.fib(), generation),
+    }
+}
+
 impl<K: KindSet, T: PoolLedger, G: Ledger> Station<K, T, G> {
     /// A worker that has drawn nothing yet, and all the buffers.
     ///
@@ -84,7 +100,8 @@ impl<K: KindSet, T: PoolLedger, G: Ledger> Station<K, T, G> {
         }
     }
 
-    // Draws and dispatches the packets of one generation.
+    // Draws and dispatches the packets of one generation. Its fork is made in the memory of the one before, where there was one, and
+    // is kept for the next.
     fn run_generation(
         &mut self,
         alloc: Global,
@@ -92,6 +109,7 @@ impl<K: KindSet, T: PoolLedger, G: Ledger> Station<K, T, G> {
         generation: u32,
         limit: u32,
         master: &Master,
+        kept: &mut Option<Fork>,
     ) -> Result<(), Memory>
         requires worker { input.now.options.now.workers ≡ 1 }
         requires options { AreInRange input.now.options.now }
@@ -103,8 +121,9 @@ impl<K: KindSet, T: PoolLedger, G: Ledger> Station<K, T, G> {
         ensures back { OnOk result (AreBack input.now.options.now self.new.core.mark self.new.pool self.new.cache) }
         ensures caches { self.new.caches ≡ self.old.caches }
     {
-        let fork = Fork::of(alloc, master.graph(), master.fib(), generation)?;
+        let fork = next_fork(alloc, master, generation, kept.take())?;
         self.draw(input, &fork, limit);
+        *kept = Some(fork);
         Ok(())
     }
 
@@ -126,15 +145,23 @@ impl<K: KindSet, T: PoolLedger, G: Ledger> Station<K, T, G> {
         ensures few { length input.now.capture.now.packets ≤ 65536 }
     {
         // A reader tells how many packets a capture may have.
-        let _packets = input.capture.packets.as_slice();
+        let _count = input.capture.packets.len();
         let script = input.plan.script();
         let book = input.plan.book(alloc, input.capture)?;
         let mut master = Master::new(alloc, input.plan)?;
         let mut processes = Processes::new(alloc, script)?;
-        self.run_generation(alloc, input, 0, book.limit(0), &master)?;
+        let mut kept = None;
+        self.run_generation(alloc, input, 0, book.limit(0), &master, &mut kept)?;
         for generation in 1..book.generations() {
             make_next(alloc, &mut processes, &mut master)?;
-            self.run_generation(alloc, input, generation, book.limit(generation), &master)?;
+            self.run_generation(
+                alloc,
+                input,
+                generation,
+                book.limit(generation),
+                &master,
+                &mut kept,
+            )?;
         }
         master.graph().copy(alloc)
     }

@@ -63,7 +63,7 @@ fn run(
     let capture = Capture {
         nanos: false,
         snaplen: 262_144,
-        packets: Packets::from_vec(packets),
+        packets: Packets::of(alloc, packets.as_slice())?,
     };
     let plan = Plan::new(alloc, parse_script(alloc, script)?)?;
     let options = Options {

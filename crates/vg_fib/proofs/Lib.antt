@@ -3,6 +3,7 @@ pub mod LevelLemmas
 pub mod ListLemmas
 pub mod LongestLemmas
 pub mod NumberLemmas
+pub mod OrderLemmas
 pub mod PrefixLemmas
 pub mod SpanLemmas
 pub mod TableLemmas

@@ -1,8 +1,10 @@
 //! The table of routes.
-ghost use Rattle.std.specs.Prelude.{◌≡◌, ◌↔◌, ◌≤◌, ◌==◌, ◌∷◌, [], length, remove, IfErr, IfOk, IsErr, IsOk, MatchOption};
-ghost use Rattle.vg_model.specs.Route.{best_route, covers as covers_address, same_prefix as is_same};
+ghost use Rattle.std.specs.Prelude.{◌≡◌, ◌↔◌, ℕ, ◌<◌, ◌≤◌, ◌∷◌, ◌++◌, [], length, map, remove, slice_index, IfErr, IfOk, IsErr, IsOk, OnErr, OnOk, MatchOption, MatchResult};
+ghost use Rattle.std.specs.List.{insert};
+ghost use Rattle.vg_model.specs.Route.{best_route, covers as covers_address};
 ghost use Rattle.vg_model.specs.Edit.{most_routes, placed, route_place};
 ghost use Rattle.vg_fib.specs.Table.{HasOneRouteEach, longer_behind};
+ghost use Rattle.vg_fib.specs.Order.{IsGap, IsOrder, moved_down, rank as rank_of, ranks};
 
 use std::alloc::Global;
 use std::marker::Model;
@@ -28,16 +30,19 @@ pub struct NoSuchRoute;
 #[derive(Drop)]
 pub struct Fib {
     routes: Vec<(Prefix, RouteTo)>,
+    // The places of the routes in the order of their prefixes, by which a prefix is found.
+    order: Vec<u16>,
 }
 
 impl Model for Fib {
     ghost use Rattle.vg_fib.specs.Table.{Routes, IsTable};
+    ghost use Rattle.vg_fib.specs.Order.{IsOrder, ranks};
 
     ghost Value = { Routes };
 
     ghost view = { λ fib. fib.routes.items };
 
-    ghost invariant = { λ fib. IsTable fib.routes.items };
+    ghost invariant = { λ fib. IsTable fib.routes.items × IsOrder (ranks fib.routes.items) fib.order.items };
 }
 
 impl Fib {
@@ -51,6 +56,7 @@ impl Fib {
     {
         Ok(Fib {
             routes: Vec::new(alloc),
+            order: Vec::new(alloc),
         })
     }
 
@@ -75,15 +81,16 @@ impl Fib {
         ensures full { (result ≡ Err FibError.TooMany) ↔ ((route_place prefix self.old ≡ None) × (MOST_ROUTES ≤ length self.old)) }
         ensures refused { IfErr result (λ _. self.new ≡ self.old) }
     {
-        match self.place(prefix) {
-            Some(place) => {
+        match place_in_order(self.routes.as_slice(), self.order.as_slice(), prefix) {
+            Ok(at) => {
+                let place = usize::from(self.order[at]);
                 self.routes[place] = (prefix, to);
                 Ok(())
             }
-            None if self.routes.len() >= MOST_ROUTES => Err(FibError::TooMany),
-            None => match self.routes.push((prefix, to)) {
+            Err(_) if self.routes.len() >= MOST_ROUTES => Err(FibError::TooMany),
+            Err(at) => match add(&mut self.routes, &mut self.order, at, (prefix, to)) {
                 Ok(()) => Ok(()),
-                Err(_) => Err(FibError::Memory),
+                Err(Memory) => Err(FibError::Memory),
             },
         }
     }
@@ -98,10 +105,13 @@ impl Fib {
             (IsErr result × (self.new ≡ self.old))
             (λ place. IsOk result × (self.new ≡ remove self.old place)) }
     {
-        let Some(place) = self.place(prefix) else {
+        let found = place_in_order(self.routes.as_slice(), self.order.as_slice(), prefix);
+        let Ok(at) = found else {
             return Err(NoSuchRoute);
         };
-        self.routes.remove(place);
+        let place = self.order.remove(at);
+        self.routes.remove(usize::from(place));
+        close_gap(self.order.as_mut_slice(), place);
         Ok(())
     }
 
@@ -127,27 +137,87 @@ impl Fib {
     pub fn copy(&self) -> Result<Fib, Memory>
         ensures { IfOk result (λ fib. fib ≡ self.now) }
     {
-        match self.routes.clone() {
-            Ok(routes) => Ok(Fib { routes }),
-            Err(_) => Err(Memory),
-        }
-    }
-
-    // The place of the route of a prefix.
-    fn place(&self, prefix: Prefix) -> Option<usize>
-        ensures { result ≡ route_place prefix self.now }
-    {
-        self.routes
-            .iter()
-            .position(|route| same_prefix(route.0, prefix))
+        let Ok(routes) = self.routes.clone() else {
+            return Err(Memory);
+        };
+        let Ok(order) = self.order.clone() else {
+            return Err(Memory);
+        };
+        Ok(Fib { routes, order })
     }
 }
 
-// Whether two prefixes are the same.
-fn same_prefix(one: Prefix, other: Prefix) -> bool
-    ensures { result ≡ is_same one other }
+// A number by which prefixes are in order, and no two have the same.
+fn rank(prefix: Prefix) -> u64
+    ensures { result ≡ rank_of prefix }
 {
-    one.addr == other.addr && one.len == other.len
+    64 * u64::from(prefix.addr) + u64::from(prefix.len)
+}
+
+// Where the place of a prefix stands in the order, or where it would have to be put.
+fn place_in_order(
+    routes: &[(Prefix, RouteTo)],
+    order: &[u16],
+    prefix: Prefix,
+) -> Result<usize, usize>
+    requires { IsOrder (ranks routes.now) order.now }
+    ensures { MatchResult result
+        (λ at. (at < length order.now) × (route_place prefix routes.now ≡ Some (slice_index order.now at)))
+        (λ at. (route_place prefix routes.now ≡ None) × IsGap (ranks routes.now) order.now (rank_of prefix) at) }
+{
+    let wanted = rank(prefix);
+    let mut from = 0;
+    let mut to = order.len();
+    while from < to {
+        let middle = from + (to - from) / 2;
+        let here = rank(routes[usize::from(order[middle])].0);
+        if here == wanted {
+            return Ok(middle);
+        }
+        if here < wanted {
+            from = middle + 1;
+        } else {
+            to = middle;
+        }
+    }
+    Err(from)
+}
+
+// Adds a route behind the others, and its place to the order. Without memory both stay as they were.
+fn add(
+    routes: &mut Vec<(Prefix, RouteTo)>,
+    order: &mut Vec<u16>,
+    at: usize,
+    route: (Prefix, RouteTo),
+) -> Result<(), Memory>
+    requires few { length routes.old.items < MOST_ROUTES }
+    requires at { at ≤ length order.old.items }
+    ensures routes { OnOk result (routes.new.items ≡ routes.old.items ++ route ∷ []) }
+    ensures order { OnOk result (order.new.items ≡ insert order.old.items at (length routes.old.items)) }
+    ensures same_routes { OnErr result (routes.new.items ≡ routes.old.items) }
+    ensures same_order { OnErr result (order.new.items ≡ order.old.items) }
+{
+    if routes.reserve(1).is_err() {
+        return Err(Memory);
+    }
+    match order.insert(at, routes.len() as u16) {
+        Ok(()) => {
+            routes.push_reserved(route);
+            Ok(())
+        }
+        Err(_) => Err(Memory),
+    }
+}
+
+// The places behind one that was taken out are one less.
+fn close_gap(order: &mut [u16], place: u16)
+    ensures { order.new ≡ map (moved_down place) order.old }
+{
+    for other in order.iter_mut() {
+        if *other > place {
+            *other -= 1;
+        }
+    }
 }
 
 // Whether the bits of a prefix are the first bits of an address. They are shifted as 64 bits, since a prefix

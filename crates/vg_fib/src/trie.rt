@@ -33,29 +33,46 @@ struct Levels {
 }
 
 impl Levels {
-    // No address has a route.
-    fn new(alloc: Global) -> Result<Levels, Memory>
+    // No memory.
+    fn bare(alloc: Global) -> Levels {
+        Levels {
+            first: Vec::new(alloc),
+            second: Vec::new(alloc),
+            third: Vec::new(alloc),
+        }
+    }
+
+    // No address has a route. The memory stays.
+    fn emptied(self) -> Result<Levels, Memory>
         ensures shape { IfOk result (λ levels. IsLevels levels) }
         ensures no_route { IfOk result (λ levels. (address : ℕ) → number_at levels address ≡ 0) }
         ensures no_child { IfOk result (λ levels. (levels.second.items ≡ []) × (levels.third.items ≡ [])) }
     {
-        let mut first = Vec::new(alloc);
+        let Levels {
+            mut first,
+            mut second,
+            mut third,
+        } = self;
+        first.clear();
+        second.clear();
+        third.clear();
         add(&mut first, 65536, Entry::Leaf(0))?;
         Ok(Levels {
             first,
-            second: Vec::new(alloc),
-            third: Vec::new(alloc),
+            second,
+            third,
         })
     }
 
-    // The levels with these routes put in. A route's number is its place and one more, and 0 is no route.
-    fn of(alloc: Global, routes: &[(Prefix, RouteTo)]) -> Result<Levels, Memory>
+    // The levels with these routes put in, and no others. A route's number is its place and one more, and 0 is no route. The
+    // memory is taken up again.
+    fn of(self, routes: &[(Prefix, RouteTo)]) -> Result<Levels, Memory>
         requires few { length routes.now ≤ most_routes }
         requires by_length { IsByLength routes.now }
         ensures shape { IfOk result (λ levels. IsLevels levels) }
         ensures numbers { IfOk result (λ levels. GivesLast levels routes.now) }
     {
-        let mut levels = Levels::new(alloc)?;
+        let mut levels = self.emptied()?;
         for (place, route) in routes.iter().enumerate() {
             levels.put(route.0, place as u16 + 1)?;
         }
@@ -209,8 +226,27 @@ impl Mtrie {
     pub fn build(alloc: Global, fib: &Fib) -> Result<Mtrie, Memory>
         ensures { IfOk result (λ trie. (address : ℕ) → best_route trie address ≡ best_route fib.now address) }
     {
-        let routes = by_length(alloc, fib.routes())?;
-        let levels = Levels::of(alloc, routes.as_slice())?;
+        Mtrie::over(Levels::bare(alloc), Vec::new(alloc), fib)
+    }
+
+    /// The same as [`Mtrie::build`], in the memory of this trie as far as it is enough.
+    ///
+    /// # Errors
+    ///
+    /// [`Memory`] where memory runs out.
+    pub fn rebuilt(self, fib: &Fib) -> Result<Mtrie, Memory>
+        ensures { IfOk result (λ trie. (address : ℕ) → best_route trie address ≡ best_route fib.now address) }
+    {
+        let Mtrie { levels, routes } = self;
+        Mtrie::over(levels, routes, fib)
+    }
+
+    // The trie of a table's routes, in this memory.
+    fn over(levels: Levels, routes: Vec<(Prefix, RouteTo)>, fib: &Fib) -> Result<Mtrie, Memory>
+        ensures { IfOk result (λ trie. (address : ℕ) → best_route trie address ≡ best_route fib.now address) }
+    {
+        let routes = by_length(routes, fib.routes())?;
+        let levels = levels.of(routes.as_slice())?;
         Ok(Mtrie { levels, routes })
     }
 
@@ -226,14 +262,18 @@ impl Mtrie {
     }
 }
 
-// The routes in the order in which they are put: shorter prefixes stand before longer ones.
-fn by_length(alloc: Global, routes: &[(Prefix, RouteTo)]) -> Result<Vec<(Prefix, RouteTo)>, Memory>
+// The routes in the order in which they are put: shorter prefixes stand before longer ones. The memory of a list is taken up again.
+fn by_length(
+    mut sorted: Vec<(Prefix, RouteTo)>,
+    routes: &[(Prefix, RouteTo)],
+) -> Result<Vec<(Prefix, RouteTo)>, Memory>
     ensures moved { IfOk result (λ sorted. IsPermutation routes.now sorted.items) }
     ensures sorted { IfOk result (λ sorted. IsByLength sorted.items) }
 {
-    let Ok(mut sorted) = Vec::from_slice(alloc, routes) else {
+    sorted.clear();
+    if sorted.extend_from_slice(routes).is_err() {
         return Err(Memory);
-    };
+    }
     match sorted.sort_by_key(|route| route.0.len) {
         Ok(()) => Ok(sorted),
         Err(_) => Err(Memory),
@@ -252,10 +292,9 @@ fn fill<T: Copy>(entries: &mut Vec<T>, from: usize, count: usize, value: T)
 
 // Adds so many entries with this value.
 fn add<T: Copy + Drop>(entries: &mut Vec<T>, count: usize, value: T) -> Result<(), Memory>
+    requires { length entries.old.items + count < 2 ^ 32 }
     ensures { IfOk result (λ _. entries.new.items ≡ entries.old.items ++ replicate count value) }
 {
-    for _ in 0..count {
-        entries.push(value).map_err(|_| Memory)?;
-    }
-    Ok(())
+    let len = entries.len() + count;
+    entries.resize(len, value).map_err(|_| Memory)
 }

@@ -55,6 +55,39 @@ impl Fork {
         })
     }
 
+    /// The same as [`Fork::of`], in the memory of this fork as far as it is enough.
+    ///
+    /// # Errors
+    ///
+    /// [`Memory`] where memory runs out.
+    pub fn renewed(
+        self,
+        alloc: Global,
+        graph: &Graph,
+        fib: &Fib,
+        generation: u32,
+    ) -> Result<Fork, Memory>
+        ensures { IfOk result (λ fork. fork ≡ forked graph.now fib.now generation) }
+    {
+        know_kept(graph);
+        let Fork {
+            graph: _,
+            trie,
+            mut routes,
+            generation: _,
+        } = self;
+        routes.clear();
+        if routes.extend_from_slice(fib.routes()).is_err() {
+            return Err(Memory);
+        }
+        Ok(Fork {
+            graph: graph.copy(alloc)?,
+            trie: trie.rebuilt(fib)?,
+            routes,
+            generation,
+        })
+    }
+
     /// The generation.
     pub fn generation(&self) -> u32
         ensures { result ≡ self.now.generation }

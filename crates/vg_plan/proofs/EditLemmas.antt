@@ -1,10 +1,9 @@
 -- Edits of a whole graph, by its lists and its table of routes.
-use Rattle.std.proofs.Common.{◌≡◌, ℕ, zero, suc, ◌≤◌, ◌||◌, ◌==◌, Bool, true, false, List, [], ◌∷◌, length, refl, sym, ap, subst, ◌∙◌, ◌⊎◌, inl, inr, arith}
+use Rattle.std.proofs.Common.{◌≡◌, ℕ, zero, suc, ◌≤◌, ◌||◌, ◌==◌, Bool, true, false, List, [], ◌∷◌, length, refl, sym, ap, subst, ◌∙◌, inl, inr, arith}
 use Rattle.std.specs.Prelude.{Option, Some, None, ok_or, Result, Ok, Err, IfErr, IsErr, IsOk, MatchOption, OnErr, IfOk, remove, replicate, is_some, slice_get, slice_set}
 use Rattle.std.specs.List.{AllByRecursion, list_any}
 use Rattle.vg_model.specs.declared.edits.Edit.{Edit}
 use Rattle.vg_model.specs.declared.edits.Edit.TheVariants as edits
-use Rattle.vg_model.specs.declared.edits.EditLine.{EditLine}
 use Rattle.vg_model.specs.declared.kinds.Kind.{Kind}
 use Rattle.vg_model.specs.declared.kinds.Interface.{Interface}
 use Rattle.vg_model.specs.declared.names.Mac.{Mac}
@@ -17,12 +16,9 @@ use Rattle.vg_model.specs.declared.routes.RouteWord.TheVariants as words
 use Rattle.vg_model.specs.Graph.{Graph, Node, next_nodes, slots, error_drop}
 use Rattle.vg_model.specs.Valid.{IsRouteWithin}
 use Rattle.vg_model.specs.Edit.{Cause, Edited, ◌>>=◌, most_interfaces, most_nodes, most_adjacencies, most_routes, node_named, interface_named, adjacency_named, place_of, placed, refused_if, is_source, DoubleName, UnknownNode, UnknownSlot, BadTarget, Cycle, UnknownInterface, leads, with_interface, with_node, with_arc, with_adjacency, UnknownAdjacency, target_of, route_place, apply}
-use Rattle.vg_model.specs.Generations.{Graphs, generations}
 use Rattle.vg_script.specs.declared.errors.ScriptCause.{ScriptCause}
 use Rattle.vg_script.specs.declared.errors.ScriptCause.TheVariants as script_causes
-use Rattle.vg_script.specs.declared.errors.ScriptError.{ScriptError}
-use Rattle.vg_script.specs.declared.scripts.Script.{Script}
-use Rattle.vg_script.specs.Reading.{script_of, refused, IsRefusal}
+use Rattle.vg_script.specs.Reading.{refused}
 use Rattle.vg_script.specs.Causes.{cause_of}
 use Rattle.vg_graph.specs.declared.errors.GraphError.{GraphError}
 use Rattle.vg_graph.specs.Refusals.{IsGraphEdit, IsRefusedBy, Answers, cause_of as cause_of_graph}

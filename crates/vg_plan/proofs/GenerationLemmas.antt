@@ -1,16 +1,14 @@
 -- The graphs that groups of edits make, one after the other.
-use Rattle.std.proofs.Common.{◌≡◌, ℕ, zero, suc, ◌+◌, ◌<◌, List, [], ◌∷◌, length, map, refl, sym, ap, subst, ◌∙◌, arith, add-one}
+use Rattle.std.proofs.Common.{◌≡◌, ℕ, zero, suc, ◌+◌, List, [], ◌∷◌, length, map, refl, sym, ap, ◌∙◌, arith, add-one}
 use Rattle.std.proofs.lemmas.List.{length-map}
-use Rattle.std.specs.Prelude.{Option, Some, None, Result, Ok, Err, slice_get, option_map}
+use Rattle.std.specs.Prelude.{Some, Result, Ok, Err, slice_get, option_map}
 use Rattle.std.proofs.lemmas.Option.{slice_get-map}
 use Rattle.vg_model.specs.declared.edits.EditLine.{EditLine}
 use Rattle.vg_model.specs.Graph.{Graph}
 use Rattle.vg_model.specs.Start.{start_graph}
 use Rattle.vg_model.specs.Edit.{Cause, apply_all}
-use Rattle.vg_model.specs.Generations.{Graphs, in_front, after_groups, generations}
-use Rattle.vg_script.specs.declared.scripts.Script.{Script}
+use Rattle.vg_model.specs.Generations.{Graphs, in_front, after_groups}
 use Rattle.vg_script.specs.Events.{Event, events}
-use Rattle.vg_script.specs.Generations.{generations_of}
 use Rattle.vg_plan.specs.Plan.{Planned, IsPlan, EventsAreMade}
 
 -- a graph in front of others makes one list with them

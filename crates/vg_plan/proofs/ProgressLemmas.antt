@@ -1,6 +1,6 @@
 -- How far a script's generations are made.
-use Rattle.std.proofs.Common.{◌≡◌, ℕ, zero, suc, ◌+◌, ◌<◌, ◌≤◌, inl, inr, List, [], ◌∷◌, ◌++◌, length, map, get_or, drop, refl, sym, ap, subst, ◌∙◌, arith}
-use Rattle.std.specs.Prelude.{Result, Ok, Err}
+use Rattle.std.proofs.Common.{◌≡◌, ℕ, inl, inr, List, [], ◌∷◌, ◌++◌, refl, sym, ap, subst, ◌∙◌}
+use Rattle.std.specs.Prelude.{Ok, Err}
 use Rattle.std.specs.List.{AllByRecursion}
 use Rattle.vg_model.specs.declared.edits.EditLine.{EditLine}
 use Rattle.vg_model.specs.Graph.{Graph}
@@ -10,7 +10,6 @@ use Rattle.vg_model.specs.Generations.{Graphs, in_front, after_groups, generatio
 use Rattle.vg_graph.proofs.ListLemmas.{all_append}
 use Rattle.vg_script.specs.declared.scripts.Script.{Script}
 use Rattle.vg_script.specs.declared.errors.ScriptError.{ScriptError}
-use Rattle.vg_script.specs.Events.{Event, events}
 use Rattle.vg_script.specs.Generations.{generations_of}
 use Rattle.vg_script.specs.Lawful.{IsLawful}
 use Rattle.vg_plan.specs.Plan.{graphs_of, IsGeneration, IsPlan}

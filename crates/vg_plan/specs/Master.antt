@@ -1,7 +1,4 @@
 -- A master: a graph and its table of routes, seen as one whole graph.
-use Rattle.std.specs.Prelude.{List}
-use Rattle.vg_model.specs.declared.routes.Prefix.{Prefix}
-use Rattle.vg_model.specs.declared.routes.RouteTo.{RouteTo}
 use Rattle.vg_model.specs.Graph as model
 use Rattle.vg_plan.specs.declared.masters.Master.TheInside.{Inside}
 use Rattle.vg_plan.specs.Routed.{with_routes}

@@ -1,5 +1,4 @@
 -- Events as the code has them, with their edits behind references.
-use Rattle.std.specs.Prelude.{ℕ}
 use Rattle.vg_script.specs.Events.{Event}
 use Rattle.vg_plan.specs.declared.events.Run.{Run}
 

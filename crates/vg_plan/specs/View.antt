@@ -1,6 +1,4 @@
 -- What contracts see of a plan and of a book.
-use Rattle.std.specs.Prelude.{ℕ}
-use Rattle.vg_model.specs.Graph.{Graph}
 use Rattle.vg_plan.specs.Plan.{Planned, graphs_of, IsPlan}
 use Rattle.vg_plan.specs.Times.{AreTimes}
 use Rattle.vg_plan.specs.declared.plans.Plan.TheInside.{Inside}

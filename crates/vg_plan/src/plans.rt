@@ -86,7 +86,7 @@ impl Plan {
         requires { generation < length self.now.graphs }
         ensures { result ≡ limit_of self.now.script capture.now generation }
     {
-        let packets = capture.packets.as_slice();
+        let packets = &capture.packets;
         match self.times.get(generation as usize) {
             Some(event) => {
                 let due = due(packets, capture.nanos, *event);
@@ -101,7 +101,7 @@ impl Plan {
         ensures limits { IfOk result (λ limits. limits.items ≡ limits_of self.now capture.now) }
         ensures few { IfOk result (λ limits. vec_len limits ≤ 1000) }
     {
-        let packets = capture.packets.as_slice();
+        let packets = &capture.packets;
         let mut limits = Vec::with_capacity(alloc, self.times.len() + 1)?;
         let mut early = 0;
         for event in &self.times {

@@ -43,7 +43,7 @@ fn capture_at(rt: &impl Abort, alloc: Global, times: &[u32]) -> Result<Capture, 
     Ok(Capture {
         nanos: false,
         snaplen: 262_144,
-        packets: Packets::from_vec(packets),
+        packets: Packets::of(alloc, packets.as_slice())?,
     })
 }
 

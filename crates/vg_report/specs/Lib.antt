@@ -9,3 +9,5 @@ pub mod Reading
 pub mod RoundTrip
 pub mod SoFar
 pub mod Answers
+pub mod Named
+pub mod Seen

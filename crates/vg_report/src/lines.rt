@@ -211,7 +211,7 @@ fn end(
 pub fn packet(words: &mut Parts, report: &Report) -> Result<PacketLine, ReportCause>
     ensures { packet_form report.now words.old ≡ found result words.new }
 {
-    words.running_number(report.packets.as_slice().len())?;
+    words.running_number(report.packets.len())?;
     let legs = words.legs(report.workers, report.generations)?;
     let (congested, end) = end(words, report.interfaces.as_slice(), report.nodes.as_slice())?;
     words.end()?;

@@ -1,10 +1,13 @@
 //! The lists of a report. Each is made of a vector and gives it back, and neither copies nor takes memory.
-ghost use Rattle.std.specs.Prelude.{◌≡◌, ◌++◌, [], ◌∷◌, MatchResult};
+ghost use Rattle.std.specs.Prelude.{◌≡◌, ◌<◌, ◌++◌, [], ◌∷◌, MatchResult, Some, length, slice_get};
+ghost use Rattle.vg_report.specs.Named.{lines_of, AreNamed, IsNamed, end_by};
+ghost use Rattle.vg_report.specs.Seen.{line_seen, end_seen};
 
 use crate::errors::ReportCause;
-use crate::reports::PacketLine;
+use crate::reports::{EndRef, LineRef, PacketEnd, PacketLine};
+use std::alloc::Global;
 use std::marker::Model;
-use vg_model::{DropError, Name};
+use vg_model::{DropError, End, Fates, Name};
 
 /// Interfaces or nodes by number, each its name and a count.
 #[derive(Drop)]
@@ -32,16 +35,26 @@ impl Model for ErrorCounts {
 }
 
 /// What became of the packets, by number.
+///
+/// The first may be kept as fates, whose ends are numbers in two lists of names; those that are added stand behind them.
 #[derive(Drop)]
-pub struct PacketLines(Vec<PacketLine>);
+pub struct PacketLines {
+    fates: Fates,
+    interfaces: Vec<Name>,
+    nodes: Vec<Name>,
+    added: Vec<PacketLine>,
+}
 
 impl Model for PacketLines {
-    ghost use Rattle.std.specs.Prelude.{List};
+    ghost use Rattle.std.specs.Prelude.{List, ◌++◌};
     ghost use Rattle.vg_report.specs.declared.reports.PacketLine.{PacketLine};
+    ghost use Rattle.vg_report.specs.Named.{lines_of, AreNamed};
 
     ghost Value = { List PacketLine };
 
-    ghost view = { λ p. p.0.items };
+    ghost view = { λ p. lines_of p.interfaces.items p.nodes.items p.fates ++ p.added.items };
+
+    ghost invariant = { λ p. AreNamed p.interfaces.items p.nodes.items p.fates };
 }
 
 /// The names of the nodes that a packet visited, in order.
@@ -135,35 +148,102 @@ impl ErrorCounts {
 }
 
 impl PacketLines {
-    /// The list of these packets.
-    pub fn from_vec(packets: Vec<PacketLine>) -> PacketLines
-        ensures { result ≡ packets.items }
+    /// No packets.
+    pub fn new(alloc: Global) -> PacketLines
+        ensures { result ≡ [] }
     {
-        PacketLines(packets)
+        PacketLines {
+            fates: Fates::from_vec(Vec::new(alloc)),
+            interfaces: Vec::new(alloc),
+            nodes: Vec::new(alloc),
+            added: Vec::new(alloc),
+        }
     }
 
-    /// The packets as a slice.
-    pub fn as_slice(&self) -> &[PacketLine]
-        ensures { result.now ≡ self.now }
+    /// What became of packets with these fates, by the names of the interfaces and of the nodes.
+    pub fn of_fates(
+        alloc: Global,
+        fates: Fates,
+        interfaces: Vec<Name>,
+        nodes: Vec<Name>,
+    ) -> PacketLines
+        requires { AreNamed interfaces.items nodes.items fates }
+        ensures { result ≡ lines_of interfaces.items nodes.items fates }
     {
-        self.0.as_slice()
+        PacketLines {
+            fates,
+            interfaces,
+            nodes,
+            added: Vec::new(alloc),
+        }
     }
 
-    /// The packets as a vector.
-    pub fn into_vec(self) -> Vec<PacketLine>
-        ensures { result.items ≡ self }
+    /// How many packets there are.
+    pub fn len(&self) -> usize
+        ensures { result ≡ length self.now }
     {
-        self.0
+        self.fates.as_slice().len() + self.added.len()
+    }
+
+    /// What became of a packet.
+    pub fn get(&self, number: usize) -> LineRef<'_>
+        requires { number < length self.now }
+        ensures { slice_get self.now number ≡ Some (line_seen result) }
+    {
+        let fates = self.fates.as_slice();
+        if number < fates.len() {
+            let fate = &fates[number];
+            return LineRef {
+                legs: &fate.legs,
+                congested: fate.congested,
+                end: named(self.interfaces.as_slice(), self.nodes.as_slice(), fate.end),
+            };
+        }
+        let line = &self.added[number - fates.len()];
+        LineRef {
+            legs: &line.legs,
+            congested: line.congested,
+            end: end_of(&line.end),
+        }
     }
 
     /// Adds a packet behind the others; the error is want of memory.
-    pub(crate) fn push(&mut self, packet: PacketLine) -> Result<(), ReportCause>
+    pub fn push(&mut self, packet: PacketLine) -> Result<(), ReportCause>
         ensures { MatchResult result (λ _. self.new ≡ self.old ++ packet ∷ []) (λ cause. cause ≡ ReportCause.Memory) }
     {
-        match self.0.push(packet) {
+        match self.added.push(packet) {
             Ok(()) => Ok(()),
             Err(_) => Err(ReportCause::Memory),
         }
+    }
+}
+
+// An end by the names of interfaces and nodes.
+fn named<'a>(interfaces: &'a [Name], nodes: &'a [Name], end: End) -> EndRef<'a>
+    requires { IsNamed interfaces.now nodes.now end }
+    ensures { end_seen result ≡ end_by interfaces.now nodes.now end }
+{
+    match end {
+        End::Tx { interface } => EndRef::Tx {
+            interface: &interfaces[usize::from(interface)],
+        },
+        End::Dropped { node, error } => EndRef::Dropped {
+            node: &nodes[usize::from(node)],
+            error,
+        },
+    }
+}
+
+// The same end, by reference.
+fn end_of(end: &PacketEnd) -> EndRef<'_>
+    ensures { end_seen result ≡ end.now }
+{
+    match end {
+        PacketEnd::Tx { interface } => EndRef::Tx { interface },
+        PacketEnd::Dropped { node, error } => EndRef::Dropped {
+            node,
+            error: *error,
+        },
     }
 }
 

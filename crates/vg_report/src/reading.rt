@@ -208,7 +208,7 @@ fn may_follow(report: &Report, packets: u32, kind: LineKind) -> bool
     let interfaces = report.interfaces.as_slice().len();
     let nodes = report.nodes.as_slice().len();
     let errors = report.errors.as_slice().len();
-    let so_far = report.packets.as_slice().len();
+    let so_far = report.packets.len();
     let traces = report.traces.as_slice().len();
     let packets = packets as usize;
     match kind {
@@ -292,7 +292,7 @@ fn begun(alloc: Global, head: &Head) -> Report
         interfaces: NameCounts::from_vec(Vec::new(alloc)),
         nodes: NameCounts::from_vec(Vec::new(alloc)),
         errors: ErrorCounts::from_vec(Vec::new(alloc)),
-        packets: PacketLines::from_vec(Vec::new(alloc)),
+        packets: PacketLines::new(alloc),
         traces: TraceLines::from_vec(Vec::new(alloc)),
     }
 }

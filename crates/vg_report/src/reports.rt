@@ -21,6 +21,24 @@ pub struct PacketLine {
     pub end: PacketEnd,
 }
 
+/// How a packet ended, by names that are kept elsewhere.
+#[derive(Clone, Copy)]
+pub enum EndRef<'a> {
+    Tx { interface: &'a Name },
+    Dropped { node: &'a Name, error: DropError },
+}
+
+/// What became of one packet, as [`PacketLine`], by what is kept elsewhere.
+#[derive(Clone, Copy)]
+pub struct LineRef<'a> {
+    /// Its way over the workers.
+    pub legs: &'a Legs,
+    /// Where it was dropped by congestion, how many frames the full handoff queue had accepted before.
+    pub congested: Option<u64>,
+    /// How it ended.
+    pub end: EndRef<'a>,
+}
+
 /// What a run did.
 #[derive(Drop)]
 pub struct Report {

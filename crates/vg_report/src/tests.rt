@@ -4,8 +4,8 @@ ghost use Rattle.vg_report.specs.Examples.{two_of_three_sent, every_kind_of_line
 
 use crate::laws::{read_is_lawful, texts_differ, written_is_read_back};
 use crate::{
-    ErrorCounts, NameCounts, Names, PacketEnd, PacketLine, PacketLines, Report, ReportCause,
-    TraceLines, read_report, write_report,
+    EndRef, ErrorCounts, NameCounts, Names, PacketEnd, PacketLine, PacketLines, Report,
+    ReportCause, TraceLines, read_report, write_report,
 };
 use std::alloc::{AllocError, Global};
 use std::process::Abort;
@@ -52,23 +52,24 @@ fn legs(way: &[Leg]) -> Legs
     legs
 }
 
-// One worker, three packets: two are transmitted, and one isn't IPv4.
-fn two_of_three(alloc: Global, rt: &impl Abort) -> Result<Report, AllocError>
-    ensures { IfOk result (λ report. report ≡ two_of_three_sent) }
+// These packets as a list.
+fn listed(alloc: Global, packets: Vec<PacketLine>) -> Result<PacketLines, AllocError>
+    ensures { IfOk result (λ lines. lines ≡ packets.items) }
 {
-    let interfaces = vec![in alloc; (name(rt, b"pg0"), 2)]?;
-    let nodes = vec![in alloc;
-        (name(rt, b"pg-input"), 3),
-        (name(rt, b"handoff-dequeue"), 0),
-        (name(rt, b"ethernet-input"), 3),
-        (name(rt, b"ip4-input"), 0),
-        (name(rt, b"ip4-lookup"), 0),
-        (name(rt, b"ip4-rewrite"), 0),
-        (name(rt, b"interface-output"), 0),
-        (name(rt, b"interface-tx"), 2),
-        (name(rt, b"error-drop"), 1),
-    ]?;
-    let errors = vec![in alloc; (name(rt, b"ethernet-input"), DropError::UnknownType, 1)]?;
+    let mut lines = PacketLines::new(alloc);
+    for packet in packets {
+        match lines.push(packet) {
+            Ok(()) => {}
+            Err(_) => return Err(AllocError),
+        }
+    }
+    Ok(lines)
+}
+
+// Two packets that are transmitted, and one that isn't IPv4.
+fn three_packets(alloc: Global, rt: &impl Abort) -> Result<PacketLines, AllocError>
+    ensures { IfOk result (λ lines. lines ≡ two_of_three_sent.packets) }
+{
     let first = Leg {
         worker: 0,
         generation: 0,
@@ -97,6 +98,27 @@ fn two_of_three(alloc: Global, rt: &impl Abort) -> Result<Report, AllocError>
             },
         },
     ]?;
+    listed(alloc, packets)
+}
+
+// One worker, three packets: two are transmitted, and one isn't IPv4.
+fn two_of_three(alloc: Global, rt: &impl Abort) -> Result<Report, AllocError>
+    ensures { IfOk result (λ report. report ≡ two_of_three_sent) }
+{
+    let interfaces = vec![in alloc; (name(rt, b"pg0"), 2)]?;
+    let nodes = vec![in alloc;
+        (name(rt, b"pg-input"), 3),
+        (name(rt, b"handoff-dequeue"), 0),
+        (name(rt, b"ethernet-input"), 3),
+        (name(rt, b"ip4-input"), 0),
+        (name(rt, b"ip4-lookup"), 0),
+        (name(rt, b"ip4-rewrite"), 0),
+        (name(rt, b"interface-output"), 0),
+        (name(rt, b"interface-tx"), 2),
+        (name(rt, b"error-drop"), 1),
+    ]?;
+    let errors = vec![in alloc; (name(rt, b"ethernet-input"), DropError::UnknownType, 1)]?;
+    let packets = three_packets(alloc, rt)?;
     Ok(Report {
         workers: 1,
         buffers: 4096,
@@ -104,7 +126,7 @@ fn two_of_three(alloc: Global, rt: &impl Abort) -> Result<Report, AllocError>
         interfaces: NameCounts::from_vec(interfaces),
         nodes: NameCounts::from_vec(nodes),
         errors: ErrorCounts::from_vec(errors),
-        packets: PacketLines::from_vec(packets),
+        packets,
         traces: TraceLines::from_vec(Vec::new(alloc)),
     })
 }
@@ -173,6 +195,7 @@ fn every_kind(alloc: Global, rt: &impl Abort) -> Result<Report, AllocError>
             },
         },
     ]?;
+    let packets = listed(alloc, packets)?;
     let short = vec![in alloc; name(rt, b"pg-input"), name(rt, b"hand")]?;
     let long = vec![in alloc;
         name(rt, b"pg-input"),
@@ -187,7 +210,7 @@ fn every_kind(alloc: Global, rt: &impl Abort) -> Result<Report, AllocError>
         interfaces: NameCounts::from_vec(interfaces),
         nodes: NameCounts::from_vec(nodes),
         errors: ErrorCounts::from_vec(errors),
-        packets: PacketLines::from_vec(packets),
+        packets,
         traces: TraceLines::from_vec(traces),
     })
 }
@@ -219,7 +242,7 @@ end
     assert_eq!(rt; report.interfaces.into_vec().len(), 2);
     assert_eq!(rt; report.nodes.into_vec().len(), 3);
     assert_eq!(rt; report.errors.into_vec().len(), 2);
-    assert_eq!(rt; report.packets.into_vec().len(), 3);
+    assert_eq!(rt; report.packets.len(), 3);
     let mut traces = report.traces.into_vec();
     assert_eq!(rt; traces.len(), 2);
     let last = traces.pop().ok_or("a trace")?;
@@ -245,10 +268,10 @@ fn same_errors(one: &[(Name, DropError, u64)], other: &[(Name, DropError, u64)])
 }
 
 // Whether two packets ended the same way.
-fn same_end(one: &PacketEnd, other: &PacketEnd) -> bool {
+fn same_end(one: EndRef<'_>, other: EndRef<'_>) -> bool {
     match (one, other) {
-        (PacketEnd::Tx { interface: a }, PacketEnd::Tx { interface: b }) => a.bytes() == b.bytes(),
-        (PacketEnd::Dropped { node: a, error: e }, PacketEnd::Dropped { node: b, error: f }) => {
+        (EndRef::Tx { interface: a }, EndRef::Tx { interface: b }) => a.bytes() == b.bytes(),
+        (EndRef::Dropped { node: a, error: e }, EndRef::Dropped { node: b, error: f }) => {
             a.bytes() == b.bytes() && e == f
         }
         _ => false,
@@ -256,13 +279,23 @@ fn same_end(one: &PacketEnd, other: &PacketEnd) -> bool {
 }
 
 // Whether the same became of all packets.
-fn same_packets(one: &[PacketLine], other: &[PacketLine]) -> bool {
-    one.len() == other.len()
-        && one.iter().zip(other).all(|(a, b)| {
-            a.legs.as_slice() == b.legs.as_slice()
-                && a.congested == b.congested
-                && same_end(&a.end, &b.end)
-        })
+fn same_packets(one: &PacketLines, other: &PacketLines) -> bool {
+    if one.len() != other.len() {
+        return false;
+    }
+    for number in 0..one.len() {
+        if number >= other.len() {
+            return false;
+        }
+        let (a, b) = (one.get(number), other.get(number));
+        if a.legs.as_slice() != b.legs.as_slice()
+            || a.congested != b.congested
+            || !same_end(a.end, b.end)
+        {
+            return false;
+        }
+    }
+    true
 }
 
 #[test]
@@ -276,7 +309,7 @@ fn a_report_of_three_packets_is_read(rt: HostRuntime) -> Result<(), Fail> {
     assert!(rt; same_counts(report.interfaces.as_slice(), expected.interfaces.as_slice()));
     assert!(rt; same_counts(report.nodes.as_slice(), expected.nodes.as_slice()));
     assert!(rt; same_errors(report.errors.as_slice(), expected.errors.as_slice()));
-    assert!(rt; same_packets(report.packets.as_slice(), expected.packets.as_slice()));
+    assert!(rt; same_packets(&report.packets, &expected.packets));
     assert!(rt; report.traces.as_slice().is_empty());
     Ok(())
 }

@@ -2,12 +2,19 @@
 ghost use Rattle.std.specs.Prelude.{◌≡◌, ◌++◌, [], ◌∷◌, decimal, flat_map, map, OnOk, IfOk};
 ghost use Rattle.vg_report.specs.Text.{line_text, numbered, count_line, head_lines, interface_line, node_line, error_line, leg_text, legs_word, further, congested_words, end_words, packet_line, trace_line, text};
 ghost use Rattle.vg_report.specs.Lawful.{IsLawful};
+ghost use Rattle.vg_report.specs.Seen.{line_seen, end_seen};
 
-use crate::lists::Names;
-use crate::reports::{PacketEnd, PacketLine, Report};
+use crate::lists::{Names, PacketLines};
+use crate::reports::{EndRef, LineRef, Report};
 use itoa::Buffer;
 use std::alloc::{AllocError, Global};
 use vg_model::{Bytes, DropError, Leg, Memory, Name};
+
+// How many bytes the line of a packet mostly has at most, and how many the lines that aren't of packets. A longer text makes the
+// buffer grow.
+const ROOM_OF_A_LINE: usize = 40;
+
+const ROOM_OF_THE_OTHERS: usize = 16_384;
 
 // Appends these bytes.
 fn put(out: &mut Vec<u8>, bytes: &[u8]) -> Result<(), AllocError>
@@ -133,15 +140,15 @@ fn put_congested(out: &mut Vec<u8>, congested: Option<u64>) -> Result<(), AllocE
     Ok(())
 }
 
-fn put_end(out: &mut Vec<u8>, end: &PacketEnd) -> Result<(), AllocError>
-    ensures { OnOk result (out.new.items ≡ out.old.items ++ further (end_words end.now)) }
+fn put_end(out: &mut Vec<u8>, end: &EndRef<'_>) -> Result<(), AllocError>
+    ensures { OnOk result (out.new.items ≡ out.old.items ++ further (end_words (end_seen end.now))) }
 {
     match end {
-        PacketEnd::Tx { interface } => {
+        EndRef::Tx { interface } => {
             put_word(out, b"tx")?;
             put_word(out, interface.bytes())
         }
-        PacketEnd::Dropped { node, error } => {
+        EndRef::Dropped { node, error } => {
             put_word(out, b"drop")?;
             put_word(out, node.bytes())?;
             put_word(out, error.word().as_bytes())
@@ -149,8 +156,8 @@ fn put_end(out: &mut Vec<u8>, end: &PacketEnd) -> Result<(), AllocError>
     }
 }
 
-fn put_packet_line(out: &mut Vec<u8>, number: usize, packet: &PacketLine) -> Result<(), AllocError>
-    ensures { OnOk result (out.new.items ≡ out.old.items ++ line_text (packet_line number packet.now)) }
+fn put_packet_line(out: &mut Vec<u8>, number: usize, packet: &LineRef<'_>) -> Result<(), AllocError>
+    ensures { OnOk result (out.new.items ≡ out.old.items ++ line_text (packet_line number (line_seen packet.now))) }
 {
     put(out, b"packet")?;
     put_number(out, number as u64)?;
@@ -207,11 +214,11 @@ fn put_error_lines(out: &mut Vec<u8>, errors: &[(Name, DropError, u64)]) -> Resu
     Ok(())
 }
 
-fn put_packet_lines(out: &mut Vec<u8>, packets: &[PacketLine]) -> Result<(), AllocError>
+fn put_packet_lines(out: &mut Vec<u8>, packets: &PacketLines) -> Result<(), AllocError>
     ensures { OnOk result (out.new.items ≡ out.old.items ++ flat_map line_text (numbered packet_line 0 packets.now)) }
 {
-    for (number, packet) in packets.iter().enumerate() {
-        put_packet_line(out, number, packet)?;
+    for number in 0..packets.len() {
+        put_packet_line(out, number, &packets.get(number))?;
     }
     Ok(())
 }
@@ -232,7 +239,7 @@ fn put_head_lines(out: &mut Vec<u8>, report: &Report) -> Result<(), AllocError>
     put_count_line(out, b"workers", u64::from(report.workers))?;
     put_count_line(out, b"buffers", u64::from(report.buffers))?;
     put_count_line(out, b"generations", u64::from(report.generations))?;
-    put_count_line(out, b"packets", report.packets.as_slice().len() as u64)
+    put_count_line(out, b"packets", report.packets.len() as u64)
 }
 
 fn put_report(out: &mut Vec<u8>, report: &Report) -> Result<(), AllocError>
@@ -242,7 +249,7 @@ fn put_report(out: &mut Vec<u8>, report: &Report) -> Result<(), AllocError>
     put_interface_lines(out, report.interfaces.as_slice())?;
     put_node_lines(out, report.nodes.as_slice())?;
     put_error_lines(out, report.errors.as_slice())?;
-    put_packet_lines(out, report.packets.as_slice())?;
+    put_packet_lines(out, &report.packets)?;
     put_trace_lines(out, report.traces.as_slice())?;
     put(out, b"end\n")
 }
@@ -253,7 +260,14 @@ pub fn write_report(alloc: Global, report: &Report) -> Result<Bytes, Memory>
     requires { IsLawful report.now }
     ensures { IfOk result (λ bytes. bytes ≡ text report.now) }
 {
-    let mut out = Vec::new(alloc);
+    let room = report
+        .packets
+        .len()
+        .saturating_mul(ROOM_OF_A_LINE)
+        .saturating_add(ROOM_OF_THE_OTHERS);
+    let Ok(mut out) = Vec::with_capacity(alloc, room) else {
+        return Err(Memory);
+    };
     match put_report(&mut out, report) {
         Ok(()) => Ok(Bytes::from_vec(out)),
         Err(_) => Err(Memory),

@@ -122,14 +122,11 @@ fn generated(alloc: Global, count: usize) -> Result<Vec<Captured>, AllocError> {
 }
 
 /// What becomes of the packets one by one.
-fn walked(alloc: Global, plan: &Plan, capture: &Capture) -> Result<Log, Memory> {
+fn walked(alloc: Global, plan: &Plan, packets: &[Captured]) -> Result<Log, Memory>
+    requires { length packets.now ≤ 65536 }
+{
     let master = Master::new(alloc, plan)?;
-    walk_all(
-        alloc,
-        master.graph(),
-        master.fib(),
-        capture.packets.as_slice(),
-    )
+    walk_all(alloc, master.graph(), master.fib(), packets)
 }
 
 /// What becomes of them in frames.
@@ -219,10 +216,10 @@ fn frames_are_like_single_packets(rt: HostRuntime) -> Result<(), Fail> {
     let capture = Capture {
         nanos: false,
         snaplen: 262_144,
-        packets: Packets::from_vec(packets),
+        packets: Packets::of(alloc, packets.as_slice())?,
     };
     let plan = Plan::new(alloc, parse_script(alloc, SCRIPT)?)?;
-    let Ok(log) = walked(alloc, &plan, &capture) else {
+    let Ok(log) = walked(alloc, &plan, packets.as_slice()) else {
         panic!(rt; "no memory")
     };
     let Ok(outcome) = forwarded(alloc, &plan, &capture) else {

@@ -12,3 +12,4 @@ pub mod ScriptLemmas
 pub mod SentLemmas
 pub mod TraceLemmas
 pub mod WordLemmas
+pub mod NameLemmas

@@ -26,17 +26,18 @@ fn read_script(alloc: Global, text: &[u8]) -> Result<Plan, ScriptError>
     Plan::new(alloc, script)
 }
 
-/// Reads a run's files: the capture first, and then the script.
-pub fn read_files<'a>(alloc: Global, files: &Files) -> Result<Input, Stop<'a>>
-    ensures read { IfOk result (AreRead files.now.capture files.now.script) }
-    ensures stop { IfErr result (OnRefusal (IsRefusedFor files.now.capture files.now.script)) }
+/// Reads a run's files: the capture first, which keeps its bytes, and then the script.
+pub fn read_files<'a>(alloc: Global, files: Files) -> Result<Input, Stop<'a>>
+    ensures read { IfOk result (AreRead files.capture files.script) }
+    ensures stop { IfErr result (OnRefusal (IsRefusedFor files.capture files.script)) }
 {
-    let capture = match read_capture(alloc, files.capture.as_slice()) {
+    let Files { capture, script } = files;
+    let capture = match read_capture(alloc, capture) {
         Ok(capture) => capture,
         Err(CaptureError::Memory) => return Err(Stop::Memory),
         Err(fault) => return Err(Stop::Refused(Refusal::Capture(fault))),
     };
-    match read_script(alloc, files.script.as_slice()) {
+    match read_script(alloc, script.as_slice()) {
         Ok(plan) => Ok(Input { capture, plan }),
         Err(
             ScriptError {

@@ -4,17 +4,15 @@ ghost use Rattle.std.specs.List.{AllByRecursion};
 ghost use Rattle.vg_model.specs.Errors.{all_errors};
 ghost use Rattle.vg_model.specs.Name.{IsName};
 ghost use Rattle.vg_engine.specs.Ends.{IsEndIn};
-ghost use Rattle.vgd.specs.Output.{named_end, node_name};
+ghost use Rattle.vgd.specs.Output.{node_name};
 ghost use Rattle.vgd.specs.Reports.{counted, made_of, made_by, all_made, line_of_fate, reported};
 
 use std::alloc::{AllocError, Global};
 use vg_counters::{Counters, TraceLists};
 use vg_engine::{Options, Outcome};
 use vg_graph::Graph;
-use vg_model::{DropError, End, Fate, Fates, Name};
-use vg_report::{
-    ErrorCounts, NameCounts, Names, PacketEnd, PacketLine, PacketLines, Report, TraceLines,
-};
+use vg_model::{DropError, Fates, Name};
+use vg_report::{ErrorCounts, NameCounts, Names, PacketLines, Report, TraceLines};
 
 /// The same name once more.
 fn copied(name: &Name) -> Name
@@ -83,50 +81,36 @@ fn errors(alloc: Global, graph: &Graph, counts: &Counters) -> Result<ErrorCounts
     Ok(ErrorCounts::from_vec(entries))
 }
 
-/// An end by names.
-fn end_by_name(graph: &Graph, end: End) -> PacketEnd
-    requires { IsEndIn graph.now end }
-    ensures { result ≡ named_end graph.now end }
+/// The names of the interfaces, by number.
+fn interface_names(alloc: Global, graph: &Graph) -> Result<Vec<Name>, AllocError>
+    ensures { IfOk result (λ names. names.items ≡ map (λ interface. interface.name) graph.now.interfaces) }
 {
-    match end {
-        End::Tx { interface } => PacketEnd::Tx {
-            interface: copied(&graph.interface_at(interface).name),
-        },
-        End::Dropped { node, error } => PacketEnd::Dropped {
-            node: copied(graph.node_name(node)),
-            error,
-        },
+    let mut names = Vec::with_capacity(alloc, usize::from(graph.interfaces()))?;
+    for n in 0..graph.interfaces() {
+        names.push(copied(&graph.interface_at(n).name))?;
     }
+    Ok(names)
 }
 
-/// The line of a packet.
-fn line(graph: &Graph, fate: Fate) -> PacketLine
-    requires { IsEndIn graph.now fate.end }
-    ensures { result ≡ line_of_fate graph.now fate }
+/// The names of the nodes, by number.
+fn node_names(alloc: Global, graph: &Graph) -> Result<Vec<Name>, AllocError>
+    ensures { IfOk result (λ names. names.items ≡ map (λ node. node.name) graph.now.nodes) }
 {
-    let Fate {
-        number: _,
-        legs,
-        congested,
-        end,
-    } = fate;
-    PacketLine {
-        legs,
-        congested,
-        end: end_by_name(graph, end),
+    let mut names = Vec::with_capacity(alloc, usize::from(graph.nodes()))?;
+    for n in 0..graph.nodes() {
+        names.push(copied(graph.node_name(n)))?;
     }
+    Ok(names)
 }
 
-/// The lines of packets.
+/// The lines of packets: their fates, and the names of where they end.
 fn lines(alloc: Global, graph: &Graph, fates: Fates) -> Result<PacketLines, AllocError>
     requires { AllByRecursion (λ fate. IsEndIn graph.now fate.end) fates }
     ensures { IfOk result (λ lines. lines ≡ map (line_of_fate graph.now) fates) }
 {
-    let mut lines = Vec::new(alloc);
-    for fate in fates.into_vec() {
-        lines.push(line(graph, fate))?;
-    }
-    Ok(PacketLines::from_vec(lines))
+    let interfaces = interface_names(alloc, graph)?;
+    let nodes = node_names(alloc, graph)?;
+    Ok(PacketLines::of_fates(alloc, fates, interfaces, nodes))
 }
 
 /// The names of nodes.

@@ -1,6 +1,6 @@
 //! A run: from the words to the status and the text that are due.
-ghost use Rattle.std.specs.Prelude.{◌≡◌, ◌<◌, ◌≤◌, ◌^◌, length, All, option_map, IfOk, OnErr};
-ghost use Rattle.vg_capture.specs.Savefile.{pairs};
+ghost use Rattle.std.specs.Prelude.{◌≡◌, ◌<◌, ◌≤◌, ◌^◌, ℕ, List, length, All, option_map, IfOk, OnErr};
+ghost use Rattle.vg_capture.specs.Savefile.{savefile};
 ghost use Rattle.vg_dispatch.specs.Progress.{AreInRange};
 ghost use Rattle.vg_words.specs.Shown.{run_shown};
 ghost use Rattle.vg_words.specs.Command.{texts};
@@ -12,8 +12,8 @@ use crate::loading::load_files;
 use crate::reading::{Input, read_files};
 use crate::refusals::{Refusal, Stop};
 use crate::reporting::report;
-use std::alloc::{AllocError, Global};
-use vg_capture::{Capture, Sent, write_capture};
+use std::alloc::Global;
+use vg_capture::{Capture, Savefile};
 use vg_dispatch::SentList;
 use vg_engine::{Options, run_one};
 use vg_model::{Bytes, Memory};
@@ -60,19 +60,26 @@ struct Texts {
     report: Bytes,
 }
 
-/// The packets that were transmitted, as they are saved.
-fn sent_packets(alloc: Global, sent: &SentList) -> Result<Vec<Sent>, AllocError>
-    ensures { IfOk result (λ packets. pairs packets.items ≡ sent.now) }
+/// The length in bytes of the savefile of packets that were transmitted, for which room is made.
+fn savefile_len(sent: &SentList) -> usize {
+    let mut bytes: usize = 0;
+    for k in 0..sent.len() {
+        bytes = bytes.saturating_add(sent.get(k).1.len());
+    }
+    Savefile::room(sent.len(), bytes)
+}
+
+/// The savefile of the packets that were transmitted.
+fn savefile_of(alloc: Global, capture: &Capture, sent: &SentList) -> Result<Bytes, Memory>
+    requires { All (λ (packet : ℕ × List ℕ). (packet.0 < length capture.now.packets) × (length packet.1 < 2 ^ 32)) sent.now }
+    ensures { IfOk result (λ bytes. bytes ≡ savefile capture.now sent.now) }
 {
-    let mut packets = Vec::with_capacity(alloc, sent.len())?;
+    let mut file = Savefile::begin(alloc, capture, savefile_len(sent))?;
     for k in 0..sent.len() {
         let (number, bytes) = sent.get(k);
-        packets.push(Sent {
-            number,
-            bytes: Bytes::from_vec(Vec::from_slice(alloc, bytes)?),
-        })?;
+        file.put(capture, number, bytes)?;
     }
-    Ok(packets)
+    Ok(file.end())
 }
 
 /// The savefile and the report of what the packets become.
@@ -93,10 +100,7 @@ fn forward(alloc: Global, input: &Input, options: &Options) -> Result<Texts, Mem
         },
         &Ip4Kinds,
     )?;
-    let Ok(sent) = sent_packets(alloc, &outcome.sent) else {
-        return Err(Memory);
-    };
-    let tx = write_capture(alloc, capture, sent.as_slice())?;
+    let tx = savefile_of(alloc, capture, &outcome.sent)?;
     let Ok(report) = report(alloc, options, generations, outcome) else {
         return Err(Memory);
     };
@@ -131,7 +135,7 @@ fn asked<'a>(alloc: Global, words: &'a [&'a str]) -> Result<Option<Run<'a>>, Mem
 fn know_few(capture: &Capture)
     ensures { length capture.now.packets ≤ 65536 }
 {
-    let _packets = capture.packets.as_slice();
+    let _count = capture.packets.len();
 }
 
 /// Runs what the words ask for, up to the printing.
@@ -147,7 +151,7 @@ pub fn run<F: Folder>(alloc: Global, words: &[&str], folder: &mut F) -> Result<D
         Ok(files) => files,
         Err(stop) => return stopped(alloc, stop),
     };
-    let input = match read_files(alloc, &files) {
+    let input = match read_files(alloc, files) {
         Ok(input) => input,
         Err(stop) => return stopped(alloc, stop),
     };

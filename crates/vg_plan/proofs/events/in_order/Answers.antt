@@ -1,4 +1,4 @@
-use Rattle.std.proofs.Common.{rules, of_calls, ◌≡◌, map, take, length, ap, ◌∙◌, sym, arith}
+use Rattle.std.proofs.Common.{rules, of_calls, ◌≡◌, map, ap, ◌∙◌}
 use Rattle.std.specs.Prelude.{flat_map}
 use Rattle.std.proofs.lemmas.Fn.{always_returns_same}
 use Rattle.std.proofs.lemmas.List.{take_all}

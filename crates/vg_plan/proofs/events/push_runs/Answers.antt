@@ -1,4 +1,4 @@
-use Rattle.std.proofs.Common.{◌%◌, ◌<◌, ◌≤◌, length, map, refl, arith, subst, ap}
+use Rattle.std.proofs.Common.{◌<◌, length, map, refl, arith, subst, ap}
 use Rattle.vg_script.specs.Lawful.{IsLawfulBlock}
 use Rattle.vg_plan.specs.Run.{seen}
 use Rattle.vg_plan.proofs.RunLemmas.{pushed_run}

@@ -1,5 +1,4 @@
-use Rattle.std.proofs.Common.{◌≡◌, ◌+◌, ◌∷◌, drop, ap, ◌∙◌, sym, subst, map, List}
-use Rattle.vg_model.specs.declared.edits.EditLine.{EditLine}
+use Rattle.std.proofs.Common.{◌+◌, drop, ap, ◌∙◌, subst, map}
 use Rattle.vg_script.specs.Generations.{generations_of}
 use Rattle.std.proofs.lemmas.Result.{err_from_is_err_and}
 use Rattle.vg_script.specs.Events.{Event}

@@ -1,4 +1,4 @@
-use Rattle.std.proofs.Common.{◌≡◌, map, drop}
+use Rattle.std.proofs.Common.{map, drop}
 use Rattle.vg_script.specs.Events.{Event}
 use Rattle.vg_script.specs.Generations.{generations_of}
 use Rattle.vg_plan.specs.Progress.{AreMadeUpTo}

@@ -10,6 +10,6 @@ returns c =
       c.in_ok-put_count_line.ensures,
       c.in_ok-put_count_line-2.ensures,
       c.in_ok-put_count_line-3.ensures,
-      c.as_slice.ensures,
+      c.len.ensures,
       head_steps c.args.out.now.items c.args.report.now,
     )) c.put_count_line-4.ensures

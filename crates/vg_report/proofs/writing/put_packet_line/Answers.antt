@@ -1,6 +1,7 @@
 use Rattle.std.proofs.Common.{decimal}
 use Rattle.std.proofs.lemmas.Result.{on_ok_weaker}
 use Rattle.vg_report.specs.Text.{legs_word, congested_words, end_words}
+use Rattle.vg_report.specs.Seen.{end_seen}
 use Rattle.vg_report.proofs.LineLemmas.{packet_steps}
 use Rattle.vg_report.proofs.writing.put_packet_line.Goals as goal
 
@@ -15,6 +16,6 @@ returns c =
       c.as_slice.ensures.legs,
       c.in_ok-put_congested.ensures,
       c.in_ok-put_end.ensures,
-      packet_steps c.args.out.now.items (decimal c.args.number) (legs_word c.args.packet.now.legs) (congested_words c.args.packet.now.congested) (end_words c.args.packet.now.end),
+      packet_steps c.args.out.now.items (decimal c.args.number) (legs_word c.args.packet.now.legs.now) (congested_words c.args.packet.now.congested) (end_words (end_seen c.args.packet.now.end)),
     ))
     c.end_line.ensures

@@ -20,7 +20,6 @@ returns c =
       c.as_slice-2.ensures,
       c.as_slice-3.ensures,
       c.as_slice-4.ensures,
-      c.as_slice-5.ensures,
       report_steps c.args.out.now.items (head_lines r) (numbered interface_line 0 r.interfaces) (numbered node_line 0 r.nodes) (map error_line r.errors)
           (numbered packet_line 0 r.packets) (numbered trace_line 0 r.traces) (last_line ∷ []),
     )) c.put.ensures

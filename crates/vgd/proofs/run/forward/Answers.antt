@@ -1,11 +1,10 @@
-use Rattle.std.proofs.Common.{◌≡◌, ℕ, ◌≤◌, List, [], ap, subst, sym, ◌∙◌, length, refl}
-use Rattle.std.specs.Prelude.{None}
+use Rattle.std.proofs.Common.{◌≡◌, ℕ, ◌<◌, ◌≤◌, ◌^◌, List, [], ap, subst, sym, ◌∙◌, length, refl}
+use Rattle.std.specs.Prelude.{None, All}
 use Rattle.std.proofs.lemmas.List.{length-map}
 use Rattle.std.specs.List.{AllByRecursion}
 use Rattle.vg_model.specs.Visit.{ip4_visit}
 use Rattle.vg_model.specs.Journey.{longest_packet}
-use Rattle.vg_capture.specs.declared.captures.Sent.{Sent}
-use Rattle.vg_capture.specs.Savefile.{savefile, pairs, AreWithin}
+use Rattle.vg_capture.specs.Savefile.{savefile}
 use Rattle.vg_plan.specs.Plan.{first_generation}
 use Rattle.vg_dispatch.specs.declared.options.Options.{Options}
 use Rattle.vg_engine.specs.Outcomes.{IsOutcome}
@@ -31,16 +30,14 @@ some_run options = record {
   tx = [];
 }
 
-pub write_capture-requires : goal.write_capture-requires
-write_capture-requires c =
+pub savefile_of-requires : goal.savefile_of-requires
+savefile_of-requires c =
     let plan = c.args.input.now.plan in
     let capture = c.args.input.now.capture in
     let is : IsOutcome ip4_visit plan.graphs (first_generation plan.script capture) capture c.args.options.now c.in_ok-outcome.outcome = c.in_ok-outcome.ensures in
-    let within : AreWithin (length (frames_of capture)) c.in-Ok.sent.items =
-    are_within plan.graphs (length (frames_of capture)) c.in-Ok.sent.items is.js (c.in-Ok.ensures ∙ is.are_sent) (own plan c.args.options.now capture c.in_ok-outcome.outcome is).0
+    let within = are_within plan.graphs (length (frames_of capture)) c.in_ok-outcome.outcome.sent is.js is.are_sent (own plan c.args.options.now capture c.in_ok-outcome.outcome is).0
     (subst (AllByRecursion (λ (p : ℕ × List ℕ). length p.1 ≤ longest_packet)) is.are_sent is.short) in
-    let by_count : AreWithin (length capture.packets) c.in-Ok.sent.items = subst (λ n. AreWithin n c.in-Ok.sent.items) (length-map capture.packets (λ p. p.bytes)) within in
-    subst (AreWithin (length capture.packets)) (sym c.as_slice.ensures.value) by_count
+    subst (λ n. All (λ (p : ℕ × List ℕ). (p.0 < n) × (length p.1 < 2 ^ 32)) c.in_ok-outcome.outcome.sent) (length-map capture.packets (λ p. p.bytes)) within
 
 pub report-requires-clause-ends : goal.report-requires-clause-ends
 report-requires-clause-ends c =
@@ -58,13 +55,13 @@ write_report-requires c =
     let capture = c.args.input.now.capture in
     let options = c.args.options.now in
     let is : IsOutcome ip4_visit plan.graphs (first_generation plan.script capture) capture options c.in_ok-outcome.outcome = c.in_ok-outcome.ensures in
-    let made : c.in-Ok-report.report ≡ reported options (length plan.graphs) c.in_ok-outcome.outcome =
-    c.in-Ok-report.ensures.report ∙ ap (λ n. reported options n c.in_ok-outcome.outcome) c.generations-generations.ensures.graphs in
-    report_lawful (some_run options) plan.graphs (length (frames_of capture)) is.js c.in-Ok-report.report
+    let made : c.in-Ok.report ≡ reported options (length plan.graphs) c.in_ok-outcome.outcome =
+    c.in-Ok.ensures.report ∙ ap (λ n. reported options n c.in_ok-outcome.outcome) c.generations-generations.ensures.graphs in
+    report_lawful (some_run options) plan.graphs (length (frames_of capture)) is.js c.in-Ok.report
     (made ∙ reported_is plan options capture c.in_ok-outcome.outcome is (some_run options) refl)
     (reportable plan options capture c.in_ok-outcome.outcome is (some_run options) refl c.requires.options c.generations-generations.ensures.plan
     (sym c.generations-generations.ensures.graphs ∙ c.generations-generations.ensures.events) c.know_few.ensures)
-    c.in-Ok-report.ensures.interfaces c.in-Ok-report.ensures.nodes
+    c.in-Ok.ensures.interfaces c.in-Ok.ensures.nodes
 
 pub returns : goal.returns
 returns c =
@@ -72,12 +69,12 @@ returns c =
     let capture = c.args.input.now.capture in
     let options = c.args.options.now in
     let is : IsOutcome ip4_visit plan.graphs (first_generation plan.script capture) capture options c.in_ok-outcome.outcome = c.in_ok-outcome.ensures in
-    let made : c.in-Ok-report.report ≡ reported options (length plan.graphs) c.in_ok-outcome.outcome =
-    c.in-Ok-report.ensures.report ∙ ap (λ n. reported options n c.in_ok-outcome.outcome) c.generations-generations.ensures.graphs in
+    let made : c.in-Ok.report ≡ reported options (length plan.graphs) c.in_ok-outcome.outcome =
+    c.in-Ok.ensures.report ∙ ap (λ n. reported options n c.in_ok-outcome.outcome) c.generations-generations.ensures.graphs in
     let saved : c.in_ok-tx.tx ≡ savefile capture c.in_ok-outcome.outcome.sent =
-    c.in_ok-tx.ensures ∙ (ap (λ (s : List Sent). savefile capture (pairs s)) c.as_slice.ensures.value ∙ ap (savefile capture) c.in-Ok.ensures) in
+    c.in_ok-tx.ensures in
     record {
-      report = c.in-Ok-report.report;
+      report = c.in-Ok.report;
       is_text = c.in_ok-report.ensures;
-      output = λ run same. output_is plan options capture c.in_ok-outcome.outcome is c.in-Ok-report.report c.in_ok-tx.tx run same c.requires.worker made saved;
+      output = λ run same. output_is plan options capture c.in_ok-outcome.outcome is c.in-Ok.report c.in_ok-tx.tx run same c.requires.worker made saved;
     }

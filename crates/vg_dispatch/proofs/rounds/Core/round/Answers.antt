@@ -1,4 +1,4 @@
-use Rattle.std.proofs.Common.{◌≡◌, ◌+◌, ◌-◌, ℕ, List, [], length, sym, ap, subst, ◌∙◌, arith}
+use Rattle.std.proofs.Common.{◌≡◌, refl, ◌+◌, ◌-◌, ℕ, List, [], length, sym, ap, subst, ◌∙◌, arith}
 use Rattle.vg_model.specs.declared.fates.Leg.{Leg}
 use Rattle.vg_dispatch.specs.Progress.{Progress, captured_bytes, draws}
 use Rattle.vg_dispatch.specs.Round.{IsRound, drawn}
@@ -16,8 +16,7 @@ stretch-packets-requires g c =
     c.len.result c.min.result c.self.inside.options c.self.inside.work c.self.view_is c.requires.alone c.requires.options c.requires.capture c.requires.limit c.self.invariant.0 c.saturating_sub-below.ensures c.len.ensures.len c.min.ensures
     c.min-count.ensures in
     let within = begins.within in
-    let same = ap length c.as_slice.ensures.packets in
-    omega (arith, within, same)
+    omega (arith, within)
 
 pub draw_all-bytes-requires : goal.draw_all-bytes-requires
 draw_all-bytes-requires g c =
@@ -25,7 +24,7 @@ draw_all-bytes-requires g c =
     c.len.result c.min.result c.self.inside.options c.self.inside.work c.self.view_is c.requires.alone c.requires.options c.requires.capture c.requires.limit c.self.invariant.0 c.saturating_sub-below.ensures c.len.ensures.len c.min.ensures
     c.min-count.ensures in
     let stretch = stretch_of c.args.self.now c.args.capture.now c.args.limit c.args.cache.now c.self.inside.number c.self.inside.packets c.self.inside.mark c.self.inside.left c.min-count.result c.self.inside.work
-    c.as_slice.result.now c.stretch-packets.result.now c.self.invariant.0 begins c.len.ensures.room c.requires.counts.0 c.requires.counts.1 c.as_slice.ensures.packets c.stretch-packets.ensures in
+    c.args.capture.now.packets c.stretch-packets.result c.self.invariant.0 begins c.len.ensures.room c.requires.counts.0 c.requires.counts.1 refl c.stretch-packets.ensures in
     let leg : ℕ → ℕ → Leg = λ w n. record { worker = w; generation = n } in
     record {
       setting = record { kinds = g.met.K.KindSet.lawful; valid = c.requires.valid; few_nodes = c.know_fork.ensures.few_nodes; few_interfaces = c.know_fork.ensures.few_interfaces };
@@ -52,9 +51,9 @@ overflow_sub-self g c =
     c.len.result c.min.result c.self.inside.options c.self.inside.work c.self.view_is c.requires.alone c.requires.options c.requires.capture c.requires.limit c.self.invariant.0 c.saturating_sub-below.ensures c.len.ensures.len c.min.ensures
     c.min-count.ensures in
     let stretch = stretch_of c.args.self.now c.args.capture.now c.args.limit c.args.cache.now c.self.inside.number c.self.inside.packets c.self.inside.mark c.self.inside.left c.min-count.result c.self.inside.work
-    c.as_slice.result.now c.stretch-packets.result.now c.self.invariant.0 begins c.len.ensures.room c.requires.counts.0 c.requires.counts.1 c.as_slice.ensures.packets c.stretch-packets.ensures in
+    c.args.capture.now.packets c.stretch-packets.result c.self.invariant.0 begins c.len.ensures.room c.requires.counts.0 c.requires.counts.1 refl c.stretch-packets.ensures in
     let fits = stretch.fits in
-    let same : c.draw_all-bytes.result ≡ captured_bytes c.stretch-packets.result.now = c.draw_all-bytes.ensures.bytes in
+    let same : c.draw_all-bytes.result ≡ captured_bytes c.stretch-packets.result = c.draw_all-bytes.ensures.bytes in
     omega (arith, fits, same)
 
 pub dispatch_all-requires : goal.dispatch_all-requires
@@ -65,15 +64,15 @@ dispatch_all-requires g c =
     c.len.result c.min.result c.self.inside.options c.self.inside.work c.self.view_is c.requires.alone c.requires.options c.requires.capture c.requires.limit c.self.invariant.0 c.saturating_sub-below.ensures c.len.ensures.len c.min.ensures
     c.min-count.ensures in
     let stretch = stretch_of c.args.self.now c.args.capture.now c.args.limit c.args.cache.now c.self.inside.number c.self.inside.packets c.self.inside.mark c.self.inside.left c.min-count.result c.self.inside.work
-    c.as_slice.result.now c.stretch-packets.result.now c.self.invariant.0 begins c.len.ensures.room c.requires.counts.0 c.requires.counts.1 c.as_slice.ensures.packets c.stretch-packets.ensures in
+    c.args.capture.now.packets c.stretch-packets.result c.self.invariant.0 begins c.len.ensures.room c.requires.counts.0 c.requires.counts.1 refl c.stretch-packets.ensures in
     record {
       setting = ok;
       empty = c.self.invariant.1;
       steady = record {
         held = c.draw_all-bytes.ensures.drawn.held;
-        room = room_drawn s (numbered_from c.self.inside.mark c.stretch-packets.result.now) c.self.inside.work c.draw_all-bytes.new.self c.args.cache.now c.draw_all-bytes.new.cache ok stretch.ready c.draw_all-bytes.ensures.drawn;
+        room = room_drawn s (numbered_from c.self.inside.mark c.stretch-packets.result) c.self.inside.work c.draw_all-bytes.new.self c.args.cache.now c.draw_all-bytes.new.cache ok stretch.ready c.draw_all-bytes.ensures.drawn;
       };
-      takes = takes_drawn (length (numbered_from c.self.inside.mark c.stretch-packets.result.now)) c.self.inside.work c.draw_all-bytes.new.self c.args.cache.now c.draw_all-bytes.new.cache c.draw_all-bytes.ensures.drawn.exchanges
+      takes = takes_drawn (length (numbered_from c.self.inside.mark c.stretch-packets.result)) c.self.inside.work c.draw_all-bytes.new.self c.args.cache.now c.draw_all-bytes.new.cache c.draw_all-bytes.ensures.drawn.exchanges
           stretch.ready.no_buffer stretch.ready.few c.len.ensures.room c.requires.counts.1;
     }
 
@@ -85,17 +84,17 @@ invariant_of-self g c =
     c.len.result c.min.result c.self.inside.options c.self.inside.work c.self.view_is c.requires.alone c.requires.options c.requires.capture c.requires.limit c.self.invariant.0 c.saturating_sub-below.ensures c.len.ensures.len c.min.ensures
     c.min-count.ensures in
     let stretch = stretch_of c.args.self.now c.args.capture.now c.args.limit c.args.cache.now c.self.inside.number c.self.inside.packets c.self.inside.mark c.self.inside.left c.min-count.result c.self.inside.work
-    c.as_slice.result.now c.stretch-packets.result.now c.self.invariant.0 begins c.len.ensures.room c.requires.counts.0 c.requires.counts.1 c.as_slice.ensures.packets c.stretch-packets.ensures in
-    let packets : List (ℕ × List ℕ) = numbered_from c.self.inside.mark c.stretch-packets.result.now in
+    c.args.capture.now.packets c.stretch-packets.result c.self.invariant.0 begins c.len.ensures.room c.requires.counts.0 c.requires.counts.1 refl c.stretch-packets.ensures in
+    let packets : List (ℕ × List ℕ) = numbered_from c.self.inside.mark c.stretch-packets.result in
     let all : Advances s 0 packets c.self.inside.work [] c.dispatch_all.new.self [] =
     round_advances s packets c.self.inside.work c.draw_all-bytes.new.self c.dispatch_all.new.self c.draw_all-bytes.ensures.drawn.advances c.dispatch_all.ensures.advances in
     let traced : IsTraced s (all_visits s c.self.inside.work.trace packets) (length c.self.inside.work.trace) 0 c.dispatch_all.new.self [] =
     c.dispatch_all.ensures.traced (all_visits s c.self.inside.work.trace packets) (length c.self.inside.work.trace) c.draw_all-bytes.ensures.drawn.traced in
-    let same : c.draw_all-bytes.result ≡ captured_bytes c.stretch-packets.result.now = c.draw_all-bytes.ensures.bytes in (
+    let same : c.draw_all-bytes.result ≡ captured_bytes c.stretch-packets.result = c.draw_all-bytes.ensures.bytes in (
       rest_after s c.self.inside.number c.self.inside.packets c.self.inside.mark c.self.inside.left c.min-count.result c.draw_all-bytes.result packets c.self.inside.work c.dispatch_all.new.self c.args.cache.now ok c.self.invariant.0
-          stretch.ready (numbered_length c.self.inside.mark c.stretch-packets.result.now ∙ stretch.size) (numbered_bytes c.self.inside.mark c.stretch-packets.result.now ∙ sym same)
+          stretch.ready (numbered_length c.self.inside.mark c.stretch-packets.result ∙ stretch.size) (numbered_bytes c.self.inside.mark c.stretch-packets.result ∙ sym same)
           (let fits = stretch.fits in omega (arith, fits, same)) begins.room (let within = begins.within in let whole = begins.packets_are in omega (arith, within, whole)) c.draw_all-bytes.ensures.drawn.sound
-          (numbered_below c.self.inside.mark (c.self.inside.mark + c.min-count.result) c.stretch-packets.result.now (let size = stretch.size in omega (arith, size))) all
+          (numbered_below c.self.inside.mark (c.self.inside.mark + c.min-count.result) c.stretch-packets.result (let size = stretch.size in omega (arith, size))) all
           c.dispatch_all.ensures.steady.held c.dispatch_all.ensures.none traced,
       c.dispatch_all.ensures.empty,
     )
@@ -108,13 +107,13 @@ returns g c =
     c.len.result c.min.result c.self.inside.options c.self.inside.work c.self.view_is c.requires.alone c.requires.options c.requires.capture c.requires.limit c.self.invariant.0 c.saturating_sub-below.ensures c.len.ensures.len c.min.ensures
     c.min-count.ensures in
     let stretch = stretch_of c.args.self.now c.args.capture.now c.args.limit c.args.cache.now c.self.inside.number c.self.inside.packets c.self.inside.mark c.self.inside.left c.min-count.result c.self.inside.work
-    c.as_slice.result.now c.stretch-packets.result.now c.self.invariant.0 begins c.len.ensures.room c.requires.counts.0 c.requires.counts.1 c.as_slice.ensures.packets c.stretch-packets.ensures in
-    let packets : List (ℕ × List ℕ) = numbered_from c.self.inside.mark c.stretch-packets.result.now in
+    c.args.capture.now.packets c.stretch-packets.result c.self.invariant.0 begins c.len.ensures.room c.requires.counts.0 c.requires.counts.1 refl c.stretch-packets.ensures in
+    let packets : List (ℕ × List ℕ) = numbered_from c.self.inside.mark c.stretch-packets.result in
     let all : Advances s 0 packets c.self.inside.work [] c.dispatch_all.new.self [] =
     round_advances s packets c.self.inside.work c.draw_all-bytes.new.self c.dispatch_all.new.self c.draw_all-bytes.ensures.drawn.advances c.dispatch_all.ensures.advances in
     let traced : IsTraced s (all_visits s c.self.inside.work.trace packets) (length c.self.inside.work.trace) 0 c.dispatch_all.new.self [] =
     c.dispatch_all.ensures.traced (all_visits s c.self.inside.work.trace packets) (length c.self.inside.work.trace) c.draw_all-bytes.ensures.drawn.traced in
-    let same : c.draw_all-bytes.result ≡ captured_bytes c.stretch-packets.result.now = c.draw_all-bytes.ensures.bytes in
+    let same : c.draw_all-bytes.result ≡ captured_bytes c.stretch-packets.result = c.draw_all-bytes.ensures.bytes in
     let k : ℕ = draws c.args.self.now c.args.limit c.args.cache.now.len in
     let so_many : k ≡ c.min-count.result = begins.draws_so_many in
     let mark : c.self.inside.mark ≡ c.args.self.now.mark = ap (λ (p : Progress). p.mark) c.self.view_is in
@@ -131,7 +130,7 @@ returns g c =
       mark = omega (arith, mark, so_many);
       cache = cache_after (length packets) k c.self.inside.work c.draw_all-bytes.new.self c.dispatch_all.new.self c.args.cache.now c.draw_all-bytes.new.cache c.dispatch_all.new.cache c.draw_all-bytes.ensures.drawn.exchanges
           c.dispatch_all.ensures.exchanges stretch.ready.no_buffer (no_buffer_left s c.dispatch_all.new.self c.dispatch_all.ensures.steady.held c.dispatch_all.ensures.none)
-          (so_many ∙ sym (numbered_length c.self.inside.mark c.stretch-packets.result.now ∙ stretch.size));
+          (so_many ∙ sym (numbered_length c.self.inside.mark c.stretch-packets.result ∙ stretch.size));
       capture = record {
         packets = begins.packets_are;
         left = ap (λ b. c.self.inside.left - b) same ∙ stretch.rest;

@@ -1,21 +1,63 @@
-use Rattle.std.proofs.Common.{◌<◌, length, arith}
-use Rattle.vg_fib.proofs.TableLemmas.{found_in, found_within, table_set, table_push, either_table}
+use Rattle.std.proofs.Common.{◌≡◌, ◌<◌, false, length, refl, sym, ◌∙◌, ap, arith}
+use Rattle.std.specs.List.{insert}
+use Rattle.std.specs.Prelude.{nat_le}
+use Rattle.std.proofs.lemmas.Bool.{lt-leb}
+use Rattle.vg_model.specs.Edit.{route_place}
+use Rattle.vg_fib.proofs.TableLemmas.{table_set}
+use Rattle.vg_fib.proofs.OrderLemmas.{place_read, order_set, pushed, stayed}
 use Rattle.vg_fib.proofs.table.Fib.set.Goals as goal
+use Rattle.vg_fib.proofs.table.Fib.set.Goals.{in-Ok-add, in-Err-add}
 
 pub index_mut-requires : goal.index_mut-requires
 index_mut-requires c =
-    let within : c.in-Some.place < length c.self.inside.routes.items =
-    found_within c.args.prefix _ _ _ _ c.self.view_is c.place.ensures c.in-Some.is in
-    omega (arith, within, c.self.inside.routes.ok)
+    let found = place_read c.args.prefix c.args.self.now c.self.inside.routes.items c.as_slice.result.now c.self.inside.order.items c.as_slice-2.result.now c.in-Ok.at _ _
+    c.self.view_is c.as_slice.ensures.value c.as_slice-2.ensures.value c.in-Ok.ensures c.index.ensures c.from-place.ensures in
+    omega (arith, found.within, c.self.inside.routes.ok)
 
 pub invariant_of-self : goal.invariant_of-self
 invariant_of-self c =
-    table_set c.args.prefix c.args.to _ _ c.self.invariant
-    (found_in c.args.prefix _ _ _ _ c.self.view_is c.place.ensures c.in-Some.is)
+    let found = place_read c.args.prefix c.args.self.now c.self.inside.routes.items c.as_slice.result.now c.self.inside.order.items c.as_slice-2.result.now c.in-Ok.at _ _
+    c.self.view_is c.as_slice.ensures.value c.as_slice-2.ensures.value c.in-Ok.ensures c.index.ensures c.from-place.ensures in (
+      table_set c.args.prefix c.args.to _ _ c.self.invariant.0 found.of_kept,
+      order_set c.args.prefix c.args.to c.self.inside.routes.items c.self.inside.order.items c.from-place.result c.self.invariant.1 found.of_kept,
+    )
 
-pub invariant_of-self-in-None-2 : goal.invariant_of-self-in-None-2
-invariant_of-self-in-None-2 c =
-    let room : length c.self.inside.routes.items < 4096 = omega (arith, c.self.inside.routes.ok) in
-    let table = table_push c.args.prefix c.args.to _ c.self.invariant
-    (found_in c.args.prefix _ _ _ _ c.self.view_is c.place.ensures c.in-None-2.is) room in
-    rw c.push.ensures.items (either_table _ _ _ table c.self.invariant)
+pub invariant_of-self-in-Err-2 : goal.invariant_of-self-in-Err-2
+invariant_of-self-in-Err-2 c =
+    let room : length c.self.inside.routes.items < 4096 = omega (arith, c.len.ensures, c.if-len-ge-MOST_ROUTES.false, c.self.inside.routes.ok) in
+    elim c.match-add.branch [
+      | in-Ok-add w ↦
+          pushed c.args.prefix c.args.to c.self.inside.routes.items c.as_slice.result.now c.add.new.routes.items c.self.inside.order.items c.as_slice-2.result.now c.add.new.order.items
+          c.in-Err-2.at c.self.invariant c.as_slice.ensures.value c.as_slice-2.ensures.value c.in-Err-2.ensures room w.in-Ok-add.ensures.routes
+          (w.in-Ok-add.ensures.order ∙ ap (λ n. insert c.self.inside.order.items n (length c.self.inside.routes.items)) c.in-Err-2.at-is)
+      | in-Err-add w ↦
+          stayed c.self.inside.routes.items c.add.new.routes.items c.self.inside.order.items c.add.new.order.items c.self.invariant w.in-Err-add.ensures.same_routes w.in-Err-add.ensures.same_order
+    ]
+
+pub returns-in-Ok-clause-set : goal.returns-in-Ok-clause-set
+returns-in-Ok-clause-set c =
+    let found = place_read c.args.prefix c.args.self.now c.self.inside.routes.items c.as_slice.result.now c.self.inside.order.items c.as_slice-2.result.now c.in-Ok.at _ _
+    c.self.view_is c.as_slice.ensures.value c.as_slice-2.ensures.value c.in-Ok.ensures c.index.ensures c.from-place.ensures in
+    rw (← c.self.view_is, found.of_kept) refl
+
+pub returns-in-Ok-clause-full : goal.returns-in-Ok-clause-full
+returns-in-Ok-clause-full c =
+    let found = place_read c.args.prefix c.args.self.now c.self.inside.routes.items c.as_slice.result.now c.self.inside.order.items c.as_slice-2.result.now c.in-Ok.at _ _
+    c.self.view_is c.as_slice.ensures.value c.as_slice-2.ensures.value c.in-Ok.ensures c.index.ensures c.from-place.ensures in
+    let there = found.of_seen in
+    ((λ e. absurd (cc)), (λ p. let none = p.0 in absurd (cc)))
+
+pub returns-in-Err-clause-full : goal.returns-in-Err-clause-full
+returns-in-Err-clause-full c =
+    let none = ap (route_place c.args.prefix) (sym c.self.view_is) ∙ ap (route_place c.args.prefix) (sym c.as_slice.ensures.value) ∙ c.in-Err.ensures.0 in
+    let len = ap length c.self.view_is in
+    ((λ e. (none, omega (arith, len, c.if-len-ge-MOST_ROUTES.true, c.len.ensures, c.self.inside.routes.ok))), (λ p. refl))
+
+pub returns-after-add-clause-set : goal.returns-after-add-clause-set
+returns-after-add-clause-set c =
+    let none = ap (route_place c.args.prefix) (sym c.as_slice.ensures.value) ∙ c.in-Err-2.ensures.0 in
+    let room : nat_le 4096 (length c.self.inside.routes.items) ≡ false = lt-leb _ _ (omega (arith, c.len.ensures, c.if-len-ge-MOST_ROUTES.false, c.self.inside.routes.ok)) in
+    elim c.match-add.branch [
+      | in-Ok-add w ↦ rw (w.result-is, w.in-Ok-add.ensures.routes, ← c.self.view_is, none, room) refl
+      | in-Err-add w ↦ rw w.result-is tt
+    ]

@@ -1,4 +1,4 @@
-use Rattle.std.proofs.Common.{◌≡◌, length, arith, sym, ap, ◌∙◌}
+use Rattle.std.proofs.Common.{length, arith, ap}
 use Rattle.std.proofs.lemmas.Slice.Zip.{length-zip}
 use Rattle.vg_plan.proofs.books.Book.generations.Goals as goal
 

@@ -1,5 +1,5 @@
-use Rattle.std.proofs.Common.{◌≡◌, ℕ, ◌<◌, length, List, arith, sym, ap, ◌∙◌, subst, refl}
-use Rattle.std.specs.Prelude.{slice_get, option_map, zip, Some}
+use Rattle.std.proofs.Common.{ℕ, ◌<◌, length, List, arith, sym, ap, ◌∙◌, refl}
+use Rattle.std.specs.Prelude.{slice_get, option_map, zip}
 use Rattle.std.proofs.lemmas.Slice.Zip.{length-zip, seconds-zip}
 use Rattle.std.proofs.lemmas.Option.{slice_get-map, slice_get_read}
 use Rattle.vg_model.specs.Graph.{Graph}

@@ -1,4 +1,4 @@
-use Rattle.std.proofs.Common.{◌≡◌, List, ℕ, length, ap, ◌∙◌, arith}
+use Rattle.std.proofs.Common.{length, ap, ◌∙◌, arith}
 use Rattle.std.specs.Prelude.{zip}
 use Rattle.vg_plan.proofs.BookLemmas.{windows_are, length-limits_of}
 use Rattle.vg_plan.proofs.plans.Plan.book.Goals as goal

@@ -1,9 +1,8 @@
-use Rattle.std.proofs.Common.{◌≡◌, ◌+◌, ◌∙◌, sym, ap, subst, List, length, refl}
+use Rattle.std.proofs.Common.{◌≡◌, ◌+◌, ◌∙◌, ap, subst, length, refl}
 use Rattle.std.specs.Prelude.{slice_get, Some}
 use Rattle.std.proofs.lemmas.Option.{slice_get_read}
-use Rattle.vg_capture.specs.declared.captures.Captured.{Captured}
 use Rattle.vg_capture.specs.Time.{stamp_at}
-use Rattle.vg_plan.specs.Front.{stamp_in, IsFront}
+use Rattle.vg_plan.specs.Front.{IsFront}
 use Rattle.vg_plan.specs.Plan.{Planned, limit_of}
 use Rattle.vg_plan.specs.Times.{AreTimes}
 use Rattle.vg_plan.proofs.WindowLemmas.{limit_by_front, limit_of_last}
@@ -15,9 +14,7 @@ returns-in-Some c =
     let at : slice_get c.deref.result.now c.args.generation ≡ Some c.in-Some.event.now =
     slice_get_read c.deref.result.now (length c.deref.result.now) c.args.generation c.in-Some.event.now refl c.in-Some.ensures.lookup.3.0 c.in-Some.ensures.lookup.1 in
     let front : IsFront c.args.capture.now.nanos c.args.capture.now.packets (stamp_at c.args.capture.now 0 + c.in-Some.event.now) c.front.result =
-    subst (λ n. IsFront c.args.capture.now.nanos c.args.capture.now.packets n c.front.result)
-    (c.due-due.ensures ∙ ap (λ (packets : List Captured). stamp_in c.args.capture.now.nanos packets 0 + c.in-Some.event.now) c.as_slice-packets.ensures.packets)
-    (subst (λ (packets : List Captured). IsFront c.args.capture.now.nanos packets c.due-due.result c.front.result) c.as_slice-packets.ensures.packets c.front.ensures) in
+    subst (λ n. IsFront c.args.capture.now.nanos c.args.capture.now.packets n c.front.result) c.due-due.ensures c.front.ensures.front in
     limit_by_front c.self.inside.script c.deref.result.now c.args.capture.now c.args.generation c.in-Some.event.now c.front.result times at front
     ∙ ap (λ (p : Planned). limit_of p.script c.args.capture.now c.args.generation) c.self.view_is
 
