@@ -8,7 +8,7 @@ use Rattle.vg_model.specs.declared.routes.Prefix.{Prefix}
 use Rattle.vg_fib.specs.declared.trie.Entry.{Entry}
 use Rattle.vg_fib.specs.declared.trie.Entry.TheVariants.{Leaf, Child}
 use Rattle.vg_fib.specs.Laws.{prefix_covers}
-use Rattle.vg_fib.specs.Trie.{number_in, number_under, number_by, HasChildren, AreLevels, IsFilled}
+use Rattle.vg_fib.specs.Trie.{number_in, number_under, number_by, HasChildren, AreLevels, IsRaised, IsRaisedSecond, AreRaised}
 use Rattle.vg_fib.proofs.SpanLemmas.{addresses, chosen_by_span, short_span, middle_span, long_span}
 
 -- what stands at a place, where a place without an entry has no route
@@ -16,7 +16,7 @@ abbrev pub entry : List Entry → ℕ → Entry
 entry entries place = get_or entries place (Leaf 0)
 
 -- a leaf is no child
-leaf_is_no_child : (number child : ℕ) → Leaf number ≡ Child child → ⊥
+pub leaf_is_no_child : (number child : ℕ) → Leaf number ≡ Child child → ⊥
 leaf_is_no_child number child e = cc
 
 -- two children that are one have one number
@@ -45,15 +45,6 @@ fewer_children old new places more has up back = record {
   within = λ i c e. omega (arith, has.within i c (back i c e));
   once = λ i j c e f. has.once i j c (back i c e) (back j c f);
 }
-
--- places that were filled with a leaf have no child
-pub filled_back : (from count number : ℕ) (old new : List Entry) → IsFilled from count (Leaf number) old new
-    → (i c : ℕ) → entry new i ≡ Child c → entry old i ≡ Child c
-filled_back from count number old new filled i c e =
-    elim (within_or_not from count i) [
-      | inl w ↦ absurd (leaf_is_no_child number c (sym (filled.inside i (Leaf 0) w.0 w.1) ∙ e))
-      | inr w ↦ sym (filled.outside i (Leaf 0) w) ∙ e
-    ]
 
 -- entries that are added and are leaves have no child
 pub added_back : (old : List Entry) (count number : ℕ) (i c : ℕ) → entry (old ++ replicate count (Leaf number)) i ≡ Child c → entry old i ≡ Child c
@@ -203,103 +194,105 @@ second_child_levels first second third place child number levels here whole =
     }
 
 -- a prefix of at most 16 bits is put
-pub short_numbers : (prefix : Prefix) (number : ℕ) (first new second : List Entry) (third : List ℕ) → prefix.addr < 2 ^ 32 → prefix.len ≤ 16
-    → IsFilled (prefix.addr / 65536) (2 ^ (16 - prefix.len)) (Leaf number) first new
-    → (address : ℕ) → number_by new second third address ≡ (if prefix_covers prefix address then number else number_by first second third address)
-short_numbers prefix number first new second third bound short filled address =
+pub short_numbers : (prefix : Prefix) (f : ℕ → ℕ) (first second : List Entry) (third : List ℕ) (new newer : List Entry) (newest : List ℕ)
+    → prefix.addr < 2 ^ 32 → prefix.len ≤ 16
+    → AreRaised f (prefix.addr / 65536) (2 ^ (16 - prefix.len)) first second third new newer newest
+    → (address : ℕ) → number_by new newer newest address ≡ (if prefix_covers prefix address then f (number_by first second third address) else number_by first second third address)
+short_numbers prefix f first second third new newer newest bound short raised address =
     let span = short_span prefix bound short in
     let q = address / 65536 in
-    chosen_by_span prefix address number (number_by first second third address) (number_by new second third address)
-    (λ inside. ap (λ e. number_under second third e address)
-    (filled.inside q (Leaf 0) (omega (arith, span.at, span.is, inside.0, inside.1)) (omega (arith, span.at, span.is, inside.0, inside.1))))
-    (λ not. ap (λ e. number_under second third e address)
-    (filled.outside q (Leaf 0) (λ low high. not (omega (arith, span.at, span.is, low, high), omega (arith, span.at, span.is, low, high)))))
+    chosen_by_span prefix address (f (number_by first second third address)) (number_by first second third address) (number_by new newer newest address)
+    (λ inside. raised.inside q address (omega (arith, span.at, span.is, inside.0, inside.1)) (omega (arith, span.at, span.is, inside.0, inside.1)))
+    (λ not. raised.outside q address (λ low high. not (omega (arith, span.at, span.is, low, high), omega (arith, span.at, span.is, low, high))))
 
 -- a prefix of 17 to 24 bits is put
-pub middle_numbers : (prefix : Prefix) (number child : ℕ) (first second new : List Entry) (third : List ℕ) → AreLevels first second third
-    → 16 < prefix.len → prefix.len ≤ 24
+pub middle_numbers : (prefix : Prefix) (f : ℕ → ℕ) (child : ℕ) (first second : List Entry) (third : List ℕ) (new : List Entry) (newer : List ℕ)
+    → AreLevels first second third → 16 < prefix.len → prefix.len ≤ 24
     → entry first (prefix.addr / 65536) ≡ Child child
-    → IsFilled (256 * child + prefix.addr / 256 % 256) (2 ^ (24 - prefix.len)) (Leaf number) second new
-    → (address : ℕ) → number_by first new third address ≡ (if prefix_covers prefix address then number else number_by first second third address)
-middle_numbers prefix number child first second new third levels longer middle parent filled address =
+    → IsRaisedSecond f (256 * child + prefix.addr / 256 % 256) (2 ^ (24 - prefix.len)) second third new newer
+    → (address : ℕ) → number_by first new newer address ≡ (if prefix_covers prefix address then f (number_by first second third address) else number_by first second third address)
+middle_numbers prefix f child first second third new newer levels longer middle parent raised address =
     let span = middle_span prefix longer middle in
     let q = address / 65536 in
     let m = address / 256 % 256 in
-    chosen_by_span prefix address number (number_by first second third address) (number_by first new third address)
+    chosen_by_span prefix address (f (number_by first second third address)) (number_by first second third address) (number_by first new newer address)
     (λ inside.
     let is : prefix.addr / 65536 ≡ q = omega (arith, span.at, span.is, span.fits, inside.0, inside.1) in
     let under : entry first q ≡ Child child = subst (λ k. entry first k ≡ Child child) is parent in
-    ap (λ e. number_under new third e address) under
-    ∙ ap (λ e. number_in third e address)
-    (filled.inside (256 * child + m) (Leaf 0) (omega (arith, span.at, span.is, span.fits, inside.0, inside.1)) (omega (arith, span.at, span.is, span.fits, inside.0, inside.1))))
-    (λ not. same_under second new third (entry first q) address (λ c e.
-    filled.outside (256 * c + m) (Leaf 0) (λ low high.
+    ap (λ e. number_under new newer e address) under
+    ∙ (raised.inside (256 * child + m) address (omega (arith, span.at, span.is, span.fits, inside.0, inside.1)) (omega (arith, span.at, span.is, span.fits, inside.0, inside.1))
+    ∙ ap f (sym (ap (λ e. number_under second third e address) under))))
+    (λ not. same_below second new third newer (entry first q) address (λ c e.
+    raised.outside (256 * c + m) address (λ low high.
     let is : c ≡ child = omega (arith, span.fits, low, high) in
     let at : q ≡ prefix.addr / 65536 = levels.first_children.once q (prefix.addr / 65536) child (subst (λ c. entry first q ≡ Child c) is e) parent in
     not (omega (arith, span.at, span.is, span.fits, low, high, is, at), omega (arith, span.at, span.is, span.fits, low, high, is, at)))))
 
 -- a prefix of 25 to 32 bits is put
-pub long_numbers : (prefix : Prefix) (number parent child : ℕ) (first second : List Entry) (third new : List ℕ) → AreLevels first second third
+pub long_numbers : (prefix : Prefix) (f : ℕ → ℕ) (parent child : ℕ) (first second : List Entry) (third new : List ℕ) → AreLevels first second third
     → 24 < prefix.len
     → entry first (prefix.addr / 65536) ≡ Child parent
     → entry second (256 * parent + prefix.addr / 256 % 256) ≡ Child child
-    → IsFilled (256 * child + prefix.addr % 256) (addresses prefix) number third new
-    → (address : ℕ) → number_by first second new address ≡ (if prefix_covers prefix address then number else number_by first second third address)
-long_numbers prefix number parent child first second third new levels longer above under filled address =
+    → IsRaised f (256 * child + prefix.addr % 256) (addresses prefix) third new
+    → (address : ℕ) → number_by first second new address ≡ (if prefix_covers prefix address then f (number_by first second third address) else number_by first second third address)
+long_numbers prefix f parent child first second third new levels longer above under raised address =
     let fits = long_span prefix longer in
     let q = address / 65536 in
     let m = address / 256 % 256 in
-    chosen_by_span prefix address number (number_by first second third address) (number_by first second new address)
+    chosen_by_span prefix address (f (number_by first second third address)) (number_by first second third address) (number_by first second new address)
     (λ inside.
     let is : prefix.addr / 65536 ≡ q = omega (arith, fits, inside.0, inside.1) in
     let is_m : prefix.addr / 256 % 256 ≡ m = omega (arith, fits, inside.0, inside.1) in
     let one : entry first q ≡ Child parent = subst (λ k. entry first k ≡ Child parent) is above in
     let two : entry second (256 * parent + m) ≡ Child child = subst (λ k. entry second (256 * parent + k) ≡ Child child) is_m under in
+    let old : number_by first second third address ≡ get_or third (256 * child + address % 256) 0 =
+    ap (λ e. number_under second third e address) one ∙ ap (λ e. number_in third e address) two in
     ap (λ e. number_under second new e address) one
-    ∙ ap (λ e. number_in new e address) two
-    ∙ filled.inside (256 * child + address % 256) 0 (omega (arith, fits, inside.0, inside.1)) (omega (arith, fits, inside.0, inside.1)))
+    ∙ (ap (λ e. number_in new e address) two
+    ∙ (raised.inside (256 * child + address % 256) (omega (arith, fits, inside.0, inside.1)) (omega (arith, fits, inside.0, inside.1))
+    ∙ ap f (sym old))))
     (λ not. same_below second second third new (entry first q) address (λ c e.
-    same_in third new (entry second (256 * c + m)) address (λ d f.
-    filled.outside (256 * d + address % 256) 0 (λ low high.
+    same_in third new (entry second (256 * c + m)) address (λ d g.
+    raised.outside (256 * d + address % 256) (λ low high.
     let is : d ≡ child = omega (arith, fits, low, high) in
     let place : 256 * c + m ≡ 256 * parent + prefix.addr / 256 % 256 =
-    levels.second_children.once (256 * c + m) (256 * parent + prefix.addr / 256 % 256) child (subst (λ d. entry second (256 * c + m) ≡ Child d) is f) under in
+    levels.second_children.once (256 * c + m) (256 * parent + prefix.addr / 256 % 256) child (subst (λ d. entry second (256 * c + m) ≡ Child d) is g) under in
     let above_is : c ≡ parent = omega (arith, place) in
     let at : q ≡ prefix.addr / 65536 = levels.first_children.once q (prefix.addr / 65536) parent (subst (λ c. entry first q ≡ Child c) above_is e) above in
     let is_m : m ≡ prefix.addr / 256 % 256 = omega (arith, place, above_is) in
     not (omega (arith, fits, low, high, is, at, is_m), omega (arith, fits, low, high, is, at, is_m))))))
 
--- the same levels with places of the first level that were filled with a leaf
-pub short_levels : (from count number : ℕ) (first new second : List Entry) (third : List ℕ) → AreLevels first second third
-    → IsFilled from count (Leaf number) first new → AreLevels new second third
-short_levels from count number first new second third levels filled = record {
-  all = filled.same_length ∙ levels.all;
-  second_whole = levels.second_whole;
-  third_whole = levels.third_whole;
-  first_children = fewer_children first new (length second) (length second) levels.first_children (omega arith) (filled_back from count number first new filled);
-  second_children = levels.second_children;
+-- levels whose numbers were raised fit each other still
+pub raised_levels : (f : ℕ → ℕ) (from count : ℕ) (first second : List Entry) (third : List ℕ) (new newer : List Entry) (newest : List ℕ) → AreLevels first second third
+    → AreRaised f from count first second third new newer newest → AreLevels new newer newest
+raised_levels f from count first second third new newer newest levels raised = record {
+  all = raised.same_length ∙ levels.all;
+  second_whole = omega (arith, raised.second, levels.second_whole);
+  third_whole = omega (arith, raised.third, levels.third_whole);
+  first_children = fewer_children first new (length second) (length newer) levels.first_children (omega (arith, raised.second)) raised.no_more;
+  second_children = fewer_children second newer (length third) (length newest) levels.second_children (omega (arith, raised.third)) raised.no_more_below;
 }
 
--- the same levels with places of the second level that were filled with a leaf
-pub middle_levels : (from count number : ℕ) (first second new : List Entry) (third : List ℕ) → AreLevels first second third
-    → IsFilled from count (Leaf number) second new → AreLevels first new third
-middle_levels from count number first second new third levels filled = record {
+-- the same where the numbers of the second level were
+pub middle_levels : (f : ℕ → ℕ) (from count : ℕ) (first second : List Entry) (third : List ℕ) (new : List Entry) (newer : List ℕ) → AreLevels first second third
+    → IsRaisedSecond f from count second third new newer → AreLevels first new newer
+middle_levels f from count first second third new newer levels raised = record {
   all = levels.all;
-  second_whole = omega (arith, filled.same_length, levels.second_whole);
-  third_whole = levels.third_whole;
-  first_children = fewer_children first first (length second) (length new) levels.first_children (omega (arith, filled.same_length)) (λ i c e. e);
-  second_children = fewer_children second new (length third) (length third) levels.second_children (omega arith) (filled_back from count number second new filled);
+  second_whole = omega (arith, raised.same_length, levels.second_whole);
+  third_whole = omega (arith, raised.third, levels.third_whole);
+  first_children = fewer_children first first (length second) (length new) levels.first_children (omega (arith, raised.same_length)) (λ i c e. e);
+  second_children = fewer_children second new (length third) (length newer) levels.second_children (omega (arith, raised.third)) raised.no_more;
 }
 
--- the same levels with places of the third level that were filled
-pub long_levels : (from count number : ℕ) (first second : List Entry) (third new : List ℕ) → AreLevels first second third
-    → IsFilled from count number third new → AreLevels first second new
-long_levels from count number first second third new levels filled = record {
+-- the same where the numbers of the third level were
+pub long_levels : (f : ℕ → ℕ) (from count : ℕ) (first second : List Entry) (third new : List ℕ) → AreLevels first second third
+    → IsRaised f from count third new → AreLevels first second new
+long_levels f from count first second third new levels raised = record {
   all = levels.all;
   second_whole = levels.second_whole;
-  third_whole = omega (arith, filled.same_length, levels.third_whole);
+  third_whole = omega (arith, raised.same_length, levels.third_whole);
   first_children = levels.first_children;
-  second_children = fewer_children second second (length third) (length new) levels.second_children (omega (arith, filled.same_length)) (λ i c e. e);
+  second_children = fewer_children second second (length third) (length new) levels.second_children (omega (arith, raised.same_length)) (λ i c e. e);
 }
 
 -- where no entry has a child there are no children

@@ -5,5 +5,6 @@ pub mod LongestLemmas
 pub mod NumberLemmas
 pub mod OrderLemmas
 pub mod PrefixLemmas
+pub mod RaiseLemmas
 pub mod SpanLemmas
 pub mod TableLemmas

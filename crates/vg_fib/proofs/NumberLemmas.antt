@@ -1,137 +1,243 @@
--- Numbers of routes: where routes stand by length, the last one that covers an address is the best.
-use Rattle.std.proofs.Common.{◌≡◌, ℕ, zero, suc, ◌+◌, ◌<◌, ◌≤◌, ◌⊎◌, inl, inr, true, false, length, get_or, refl, sym, ◌∙◌, ap, subst, arith}
-use Rattle.std.proofs.lemmas.Bool.{cases_eq, cases_lt, false≢true}
+-- Numbers of routes: where all routes are put, an address's number is that of its best route.
+use Rattle.std.proofs.Common.{◌≡◌, ℕ, zero, suc, ◌+◌, ◌-◌, ◌*◌, ◌<◌, ◌≤◌, ◌^◌, ◌≢◌, ◌⊎◌, inl, inr, Bool, true, false, List, [], length, get_or, refl, sym, ◌∙◌, ap, subst, arith}
+use Rattle.std.proofs.lemmas.Bool.{cases_eq, cases_lt, false≢true, ltb-true, ltb-false}
 use Rattle.std.proofs.lemmas.List.{get_or_default}
 use Rattle.std.proofs.lemmas.List.Elements.{Contains-get_or}
-use Rattle.std.proofs.lemmas.List.Sorted.{IsPermutation-map}
-use Rattle.std.proofs.lemmas.Map.Keys.{IsDistinct-IsPermutation}
-use Rattle.std.proofs.lemmas.Option.{slice_get-get_or}
-use Rattle.std.specs.Prelude.{Some, option_map, slice_get, IsPermutation, if◌then◌else◌}
+use Rattle.std.proofs.lemmas.List.Sorted.{Contains-permutation, IsPermutation-sym, length_permutation}
+use Rattle.std.proofs.lemmas.Option.{slice_get-get_or, slice_get_read}
+use Rattle.std.specs.Prelude.{Some, option_map, slice_get, nat_lt, IsPermutation, if◌then◌else◌}
+use Rattle.std.specs.List.{Contains}
 use Rattle.vg_model.specs.declared.routes.Prefix.{Prefix}
 use Rattle.vg_model.specs.declared.routes.RouteTo.{RouteTo}
 use Rattle.vg_model.specs.declared.routes.RouteTo.TheVariants.{Local}
-use Rattle.vg_model.specs.Route.{best_route, same_prefix}
+use Rattle.vg_model.specs.Route.{best_route}
 use Rattle.vg_fib.specs.declared.trie.Levels.{Levels}
 use Rattle.vg_fib.specs.Table.{Routes, HasOneRouteEach}
 use Rattle.vg_fib.specs.Laws.{prefix_covers}
-use Rattle.vg_fib.specs.Trie.{IsByLength, last_number, number_after, target_of, GivesLast, GivesRoutes}
-use Rattle.vg_fib.proofs.PrefixLemmas.{same_equivalence}
+use Rattle.vg_fib.specs.Trie.{length_if, length_at, length_of, longer_of, covers_if, covers_at, target_of, IsLongestOf, IsBestOf, IsLevels, HasFirst, IsTrie, BeginsWith, AreFrom, number_at}
+use Rattle.vg_fib.proofs.TableLemmas.{empty_table}
 use Rattle.vg_fib.proofs.BestLemmas.{covering, no_answer, longest_match_is_best}
 
 -- a route, for lists that have none
 any_route : Prefix × RouteTo
 any_route = (record { addr = 0; len = 0; few = omega arith; host_bits = refl }, Local)
 
--- none of the first so many routes covers the address
-abbrev NoneOf : Routes → ℕ → ℕ → Prefix × RouteTo → Type 0
-NoneOf routes address below d = (k : ℕ) → k < below → covering address (get_or routes k d) ≡ false
+-- a place's length and cover by the route that stands there
+length_there : (routes : Routes) (k : ℕ) (d : Prefix × RouteTo) → k < length routes → length_at routes k ≡ (get_or routes k d).0.len
+length_there routes k d within = ap length_if (slice_get-get_or routes k d within)
 
--- of the first so many routes this one covers the address, and none behind it
-record IsLast (routes : Routes) (address below number : ℕ) (d : Prefix × RouteTo) : Type 0 where
-  place : ℕ
-  is : number ≡ suc place
-  within : place < below
-  covers : covering address (get_or routes place d) ≡ true
-  last : (k : ℕ) → place < k → k < below → covering address (get_or routes k d) ≡ false
+covers_there : (routes : Routes) (k address : ℕ) (d : Prefix × RouteTo) → k < length routes → covers_at routes k address ≡ covering address (get_or routes k d)
+covers_there routes k address d within = ap (λ o. covers_if o address) (slice_get-get_or routes k d within)
 
--- what a last number says
-abbrev LastIs : Routes → ℕ → ℕ → ℕ → Prefix × RouteTo → Type 0
-LastIs routes address below number d = ((number ≡ 0) × NoneOf routes address below d) ⊎ IsLast routes address below number d
+-- the best number among some places is so among fewer
+pub best_among : (routes : Routes) (places fewer : ℕ → Type 0) (address number : ℕ) → ((k : ℕ) → k < length routes → fewer k → places k)
+    → IsBestOf routes places address number → IsBestOf routes fewer address number
+best_among routes places fewer address zero each best = λ k within here. best k within (each k within here)
+best_among routes places fewer address (suc place) each best = record {
+  within = best.within;
+  covers = best.covers;
+  longest = λ k within here. best.longest k within (each k within here);
+}
 
--- one route more, which doesn't cover
-none_more : (routes : Routes) (address n number other : ℕ) (d : Prefix × RouteTo) → covering address (get_or routes n d) ≡ false
-    → number ≡ other → LastIs routes address n other d → LastIs routes address (suc n) number d
-none_more routes address n number other d off same (inl w) =
-    inl (
-      same ∙ w.0,
-      λ k below. elim (cases_eq k n) [
-        | inl e ↦ subst (λ k. covering address (get_or routes k d) ≡ false) (sym e) off
-        | inr ne ↦ w.1 k (omega (arith, ne))
-      ],
-    )
-none_more routes address n number other d off same (inr w) =
-    inr (record {
-      place = w.place;
-      is = same ∙ w.is;
-      within = omega (arith, w.within);
-      covers = w.covers;
-      last = λ k behind below. elim (cases_eq k n) [
-        | inl e ↦ subst (λ k. covering address (get_or routes k d) ≡ false) (sym e) off
-        | inr ne ↦ w.last k behind (omega (arith, ne))
-      ];
+-- the best number among places, with one more that doesn't cover the address
+best_with_other : (routes : Routes) (places more : ℕ → Type 0) (address q number : ℕ) → ((k : ℕ) → more k → places k ⊎ (k ≡ q))
+    → covers_at routes q address ≡ false → IsBestOf routes places address number → IsBestOf routes more address number
+best_with_other routes places more address q zero each off best = λ k within here. elim (each k here) [
+  | inl there ↦ best k within there
+  | inr e ↦ subst (λ k. covers_at routes k address ≡ false) (sym e) off
+]
+best_with_other routes places more address q (suc place) each off best = record {
+  within = best.within;
+  covers = best.covers;
+  longest = λ k within here yes. elim (each k here) [
+    | inl there ↦ best.longest k within there yes
+    | inr e ↦ absurd (false≢true (sym off ∙ subst (λ k. covers_at routes k address ≡ true) e yes))
+  ];
+}
+
+-- with one more that covers the address and is shorter
+best_with_shorter : (routes : Routes) (places more : ℕ → Type 0) (address q number : ℕ) → ((k : ℕ) → more k → places k ⊎ (k ≡ q))
+    → length_at routes q < length_of routes number → IsBestOf routes places address number → IsBestOf routes more address number
+best_with_shorter routes places more address q zero each shorter best = absurd (omega (arith, shorter))
+best_with_shorter routes places more address q (suc place) each shorter best = record {
+  within = best.within;
+  covers = best.covers;
+  longest = λ k within here yes. elim (each k here) [
+    | inl there ↦ best.longest k within there yes
+    | inr e ↦ subst (λ k. length_at routes k ≤ length_at routes place) (sym e) (omega (arith, shorter))
+  ];
+}
+
+-- no place that covers the address is longer than its best number
+none_longer : (routes : Routes) (places : ℕ → Type 0) (address number k : ℕ) → IsBestOf routes places address number
+    → k < length routes → places k → covers_at routes k address ≡ true → length_at routes k ≤ length_of routes number
+none_longer routes places address zero k best within here on = absurd (false≢true (sym (best k within here) ∙ on))
+none_longer routes places address (suc place) k best within here on = best.longest k within here on
+
+-- with one more that covers the address and is not shorter
+best_with_longer : (routes : Routes) (places more : ℕ → Type 0) (address q number : ℕ) → ((k : ℕ) → more k → places k ⊎ (k ≡ q))
+    → q < length routes → covers_at routes q address ≡ true → length_of routes number ≤ length_at routes q
+    → IsBestOf routes places address number → IsBestOf routes more address (suc q)
+best_with_longer routes places more address q number each inside on longer best = record {
+  within = inside;
+  covers = on;
+  longest = λ k within here yes. elim (each k here) [
+    | inl there ↦ omega (arith, none_longer routes places address number k best within there yes, longer)
+    | inr e ↦ subst (λ k. length_at routes k ≤ length_at routes q) (sym e) (omega arith)
+  ];
+}
+
+-- the best number among places, with one more
+pub best_with : (routes : Routes) (places more : ℕ → Type 0) (address q number : ℕ) → ((k : ℕ) → more k → places k ⊎ (k ≡ q))
+    → q < length routes → IsBestOf routes places address number
+    → IsBestOf routes more address (if covers_at routes q address then longer_of routes (suc q) number else number)
+best_with routes places more address q number each inside best =
+    elim (covers_at routes q address) as (λ b. covers_at routes q address ≡ b
+    → IsBestOf routes more address (if b then longer_of routes (suc q) number else number)) [
+      | true ↦ λ on. elim (nat_lt (length_at routes q) (length_of routes number)) as (λ b. nat_lt (length_at routes q) (length_of routes number) ≡ b
+          → IsBestOf routes more address (if b then number else suc q)) [
+            | true ↦ λ is. best_with_shorter routes places more address q number each (ltb-true _ _ is) best
+            | false ↦ λ is. best_with_longer routes places more address q number each inside on (ltb-false _ _ is) best
+          ] refl
+      | false ↦ λ off. best_with_other routes places more address q number each off best
+    ] refl
+
+-- the best number among all routes is that of the best route
+pub best_is_route : (routes : Routes) (address number : ℕ) → HasOneRouteEach routes
+    → IsBestOf routes (λ k. k < length routes) address number → target_of routes number ≡ best_route routes address
+best_is_route routes address zero distinct best =
+    sym (no_answer routes address (λ k e within yes.
+    false≢true (sym (best k within within) ∙ (covers_there routes k address e within ∙ yes))))
+best_is_route routes address (suc place) distinct best =
+    let route : Prefix × RouteTo = get_or routes place any_route in
+    ap (option_map (λ r. r.1)) (slice_get-get_or routes place any_route best.within)
+    ∙ sym (longest_match_is_best routes address route distinct (record {
+      inside = Contains-get_or routes place any_route best.within;
+      covers = sym (covers_there routes place address any_route best.within) ∙ best.covers;
+      longest = λ k e within yes.
+          let less : length_at routes k ≤ length_at routes place = best.longest k within within (covers_there routes k address e within ∙ yes) in
+          let here : length_at routes k ≡ (get_or routes k e).0.len = length_there routes k e within in
+          let there : length_at routes place ≡ route.0.len = length_there routes place any_route best.within in
+          omega (arith, less, here, there);
+    }))
+
+-- a best number is within the routes
+pub best_within : (routes : Routes) (places : ℕ → Type 0) (address number : ℕ) → IsBestOf routes places address number → number ≤ length routes
+best_within routes places address zero best = omega arith
+best_within routes places address (suc place) best = omega (arith, best.within)
+
+-- routes that begin with the same prefixes have the same best numbers among these
+pub best_renewed : (routes first : Routes) (address number : ℕ) → BeginsWith routes first
+    → IsBestOf first (λ k. k < length first) address number → IsBestOf routes (λ k. k < length first) address number
+best_renewed routes first address zero begins best = λ k within here.
+    let same : (get_or first k any_route).0 ≡ (get_or routes k any_route).0 = begins.same k any_route here in
+    covers_there routes k address any_route within
+    ∙ (ap (λ p. prefix_covers p address) (sym same) ∙ (sym (covers_there first k address any_route here) ∙ best k here here))
+best_renewed routes first address (suc place) begins best =
+    let all : (k : ℕ) → k < length first → k < length routes = λ k here. omega (arith, begins.few) in
+    let covers : (k : ℕ) → k < length first → covers_at routes k address ≡ covers_at first k address = λ k here.
+    covers_there routes k address any_route (all k here)
+    ∙ (ap (λ p. prefix_covers p address) (sym (begins.same k any_route here)) ∙ sym (covers_there first k address any_route here)) in
+    let long : (k : ℕ) → k < length first → length_at routes k ≡ length_at first k = λ k here.
+    length_there routes k any_route (all k here)
+    ∙ (ap (λ p. p.len) (sym (begins.same k any_route here)) ∙ sym (length_there first k any_route here)) in
+    record {
+      within = all place best.within;
+      covers = covers place best.within ∙ best.covers;
+      longest = λ k within here yes. omega (arith, best.longest k here here (sym (covers k here) ∙ yes), long k here, long place best.within);
+    }
+
+-- the places that were put so far: the first ones, and those that stand first in the order
+abbrev pub ArePut : ℕ → List ℕ → ℕ → ℕ → Type 0
+ArePut known order turn k = (k < known) ⊎ ((j : ℕ) × (j < turn) × (get_or order j 0 ≡ k))
+
+-- before the first turn only the first ones are put
+pub put_before : (known : ℕ) (order : List ℕ) (k : ℕ) → ArePut known order 0 k → k < known
+put_before known order k (inl w) = w
+put_before known order k (inr w) = absurd (omega (arith, w.1))
+
+-- one turn more puts one place more
+pub put_next : (known : ℕ) (order : List ℕ) (turn q k : ℕ) → get_or order turn 0 ≡ q → ArePut known order (turn + 1) k → ArePut known order turn k ⊎ (k ≡ q)
+put_next known order turn q k is (inl w) = inl (inl w)
+put_next known order turn q k is (inr w) = elim (cases_eq w.0 turn) [
+  | inl e ↦ inr (sym w.2 ∙ (ap (λ j. get_or order j 0) e ∙ is))
+  | inr ne ↦ inl (inr (w.0, omega (arith, w.1, ne), w.2))
+]
+
+-- after the last turn all are put
+pub put_all : (known all : ℕ) (order : List ℕ) (k : ℕ) → AreFrom known all order → k < all → ArePut known order (length order) k
+put_all known all order k from below = elim (cases_lt k known) [
+  | inl first ↦ inl first
+  | inr behind ↦ inr (from.each k behind below)
+]
+
+-- the places from one on, in another order
+pub from_permutation : (known all : ℕ) (rising order : List ℕ) → length rising + known ≡ all
+    → ((i : ℕ) → i < length rising → get_or rising i 0 ≡ known + i) → IsPermutation rising order → AreFrom known all order
+from_permutation known all rising order count is moved =
+    let same : length order ≡ length rising = length_permutation rising order moved in
+    record {
+      count = omega (arith, count, same);
+      within = λ i inside.
+          let back : Contains rising (get_or order i 0) = Contains-permutation order rising (get_or order i 0) (IsPermutation-sym rising order moved) (Contains-get_or order i 0 inside) in
+          let at : get_or rising back.0 0 ≡ get_or order i 0 = get_or_default rising back.0 0 (get_or order i 0) back.1 ∙ back.2 in
+          omega (arith, count, back.1, is back.0 back.1, at);
+      each = λ k low high.
+          let i : ℕ = k - known in
+          let inside : i < length rising = omega (arith, count, low, high) in
+          let value : get_or rising i 0 ≡ k = omega (arith, is i inside, low) in
+          let there : Contains order (get_or rising i 0) = Contains-permutation rising order (get_or rising i 0) moved (Contains-get_or rising i 0 inside) in
+          (there.0, there.1, get_or_default order there.0 0 (get_or rising i 0) there.1 ∙ (there.2 ∙ value));
+    }
+
+-- an address's number after one turn
+pub number_after_turn : (routes : Routes) (known turn q address number new : ℕ) (order : List ℕ) (route : Prefix × RouteTo)
+    → get_or order turn 0 ≡ q → q < length routes → slice_get routes q ≡ Some route
+    → IsBestOf routes (ArePut known order turn) address number
+    → new ≡ (if prefix_covers route.0 address then longer_of routes (q + 1) number else number)
+    → IsBestOf routes (ArePut known order (turn + 1)) address new
+number_after_turn routes known turn q address number new order route at inside here best is =
+    let next : q + 1 ≡ suc q = omega arith in
+    let covers : covers_at routes q address ≡ prefix_covers route.0 address = ap (λ o. covers_if o address) here in
+    let whole : (if covers_at routes q address then longer_of routes (suc q) number else number) ≡ new =
+    ap (λ b. if b then longer_of routes (suc q) number else number) covers
+    ∙ (ap (λ m. if prefix_covers route.0 address then longer_of routes m number else number) (sym next) ∙ sym is) in
+    subst (IsBestOf routes (ArePut known order (turn + 1)) address) whole
+    (best_with routes (ArePut known order turn) (ArePut known order (turn + 1)) address q number (λ k. put_next known order turn q k at) inside best)
+
+-- levels that have the routes of a list have those of one that begins with the same prefixes
+pub has_renewed : (routes first : Routes) (known : ℕ) (levels : Levels) → known ≡ length first → BeginsWith routes first
+    → HasFirst first (length first) levels → HasFirst routes known levels
+has_renewed routes first known levels is begins has =
+    subst (λ known. HasFirst routes known levels) (sym is) (record {
+      shape = has.shape;
+      numbers = λ address bound. best_renewed routes first address (number_at levels address) begins (has.numbers address bound);
+      second_few = has.second_few;
+      third_few = has.third_few;
     })
 
--- the number after one route more
-pub number_more : (routes : Routes) (address n : ℕ) (route : Prefix × RouteTo) → slice_get routes n ≡ Some route
-    → last_number routes address (suc n) ≡ (if covering address route then suc n else last_number routes address n)
-number_more routes address n route here = ap (λ o. number_after o address (suc n) (last_number routes address n)) here
+-- no address's number is any where no route is put
+nothing_best : (places : ℕ → Type 0) (address number : ℕ) → number ≡ 0 → IsBestOf [] places address number
+nothing_best places address number none = subst (IsBestOf [] places address) (sym none) (λ k within. absurd (omega (arith, within)))
 
-last_is : (routes : Routes) (address : ℕ) (d : Prefix × RouteTo) (below : ℕ) → below ≤ length routes
-    → LastIs routes address below (last_number routes address below) d
-last_is routes address d zero few = inl (refl, λ k below. absurd (omega arith))
-last_is routes address d (suc n) few =
-    let within : n < length routes = omega arith in
-    let route = get_or routes n d in
-    elim (covering address route) as (λ b. covering address route ≡ b
-    → last_number routes address (suc n) ≡ (if b then suc n else last_number routes address n)
-    → LastIs routes address (suc n) (last_number routes address (suc n)) d) [
-      | true ↦ λ e is. inr (record { place = n; is = is; within = omega arith; covers = e; last = λ k behind below. absurd (omega arith) })
-      | false ↦ λ e is. none_more routes address n _ _ d e is (last_is routes address d n (omega arith))
-    ] refl (number_more routes address n route (slice_get-get_or routes n d within))
+-- levels with no route
+pub nothing_put : (routes : Routes) (levels : Levels) → routes ≡ [] → IsLevels levels → ((address : ℕ) → number_at levels address ≡ 0)
+    → levels.second.items ≡ [] → levels.third.items ≡ [] → IsTrie routes levels
+nothing_put routes levels none shape numbers second third =
+    subst (λ routes. IsTrie routes levels) (sym none) (record {
+      table = empty_table;
+      has = record {
+        shape = shape;
+        numbers = λ address bound. nothing_best (λ k. k < 0) address (number_at levels address) (numbers address);
+        second_few = omega (arith, ap length second);
+        third_few = omega (arith, ap length third);
+      };
+    })
 
--- a last number is within the routes
-number_within : (routes : Routes) (address number : ℕ) (d : Prefix × RouteTo) → LastIs routes address (length routes) number d → number ≤ length routes
-number_within routes address number d (inl w) = omega (arith, w.0)
-number_within routes address number d (inr w) = omega (arith, w.is, w.within)
-
--- where routes stand by length, the target of the last number is the best route
-number_is_best : (routes : Routes) (address number : ℕ) (d : Prefix × RouteTo) → HasOneRouteEach routes → IsByLength routes
-    → LastIs routes address (length routes) number d → target_of routes number ≡ best_route routes address
-number_is_best routes address number d distinct sorted (inl w) =
-    ap (target_of routes) w.0 ∙ sym (no_answer routes address (λ k e within.
-    subst (λ r. covering address r ≡ true → ⊥) (get_or_default routes k d e within)
-    (λ yes. false≢true (sym (w.1 k within) ∙ yes))))
-number_is_best routes address number d distinct sorted (inr w) =
-    let route : Prefix × RouteTo = get_or routes w.place d in
-    ap (target_of routes) w.is
-    ∙ (ap (option_map (λ r. r.1)) (slice_get-get_or routes w.place d w.within)
-    ∙ sym (longest_match_is_best routes address route distinct (record {
-      inside = Contains-get_or routes w.place d w.within;
-      covers = w.covers;
-      longest = λ k e within. subst (λ r. covering address r ≡ true → r.0.len ≤ route.0.len) (get_or_default routes k d e within)
-          (λ yes. elim (cases_lt w.place k) [
-            | inl behind ↦ absurd (false≢true (sym (w.last k behind within) ∙ yes))
-            | inr before ↦ sorted k w.place d before w.within
-          ]);
-    })))
-
--- levels that give the last number give the best route
-pub gives_routes : (levels : Levels) (routes : Routes) → HasOneRouteEach routes → IsByLength routes → GivesLast levels routes → GivesRoutes levels routes
-gives_routes levels routes distinct sorted gives address bound =
-    let last = last_is routes address any_route (length routes) (omega arith) in
-    let is = gives address bound in (
-      subst (λ n. n ≤ length routes) (sym is) (number_within routes address _ any_route last),
-      ap (target_of routes) is ∙ number_is_best routes address _ any_route distinct sorted last,
-    )
-
--- in another order each prefix has one route too
-pub distinct_elsewhere : (routes others : Routes) → HasOneRouteEach routes → IsPermutation routes others → HasOneRouteEach others
-distinct_elsewhere routes others distinct moved =
-    IsDistinct-IsPermutation same_prefix same_equivalence.symm _ _ (IsPermutation-map (λ route. route.0) routes others moved) distinct
-
--- the number after one route more, as a loop counts
-pub number_step : (routes : Routes) (address n : ℕ) (route : Prefix × RouteTo) → slice_get routes n ≡ Some route
-    → (if prefix_covers route.0 address then n + 1 else last_number routes address n) ≡ last_number routes address (n + 1)
-number_step routes address n route here =
-    let next : n + 1 ≡ suc n = omega arith in
-    subst (λ m. (if prefix_covers route.0 address then m else last_number routes address n) ≡ last_number routes address m) (sym next)
-    (sym (number_more routes address n route here))
-
--- where a route has at most so many bits, each one before it has
-pub most_before : (routes : Routes) (k place bits : ℕ) (d route : Prefix × RouteTo) → IsByLength routes → k < place → place < length routes
-    → route ≡ get_or routes place route → route.0.len ≤ bits → (get_or routes k d).0.len ≤ bits
-most_before routes k place bits d route sorted before here is most =
-    let same : get_or routes place d ≡ route = get_or_default routes place d route here ∙ sym is in
-    let rises : (get_or routes k d).0.len ≤ (get_or routes place d).0.len = sorted k place d (omega arith) here in
-    let len : (get_or routes place d).0.len ≡ route.0.len = ap (λ r. r.0.len) same in
-    omega (arith, rises, len, most)
+-- the target that stands before a number
+pub read_target : (routes : Routes) (number : ℕ) (x : Prefix × RouteTo) → number ≢ 0 → number ≤ length routes → x ≡ get_or routes (number - 1) x
+    → target_of routes number ≡ Some x.1
+read_target routes zero x some few is = absurd (some refl)
+read_target routes (suc place) x some few is =
+    let before : suc place - 1 ≡ place = omega arith in
+    ap (option_map (λ r. r.1)) (slice_get_read routes (length routes) place x refl (omega (arith, few)) (subst (λ k. x ≡ get_or routes k x) before is))

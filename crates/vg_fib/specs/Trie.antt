@@ -1,10 +1,8 @@
 -- The trie of routes (strides of 16, 8 and 8 bits).
-use Rattle.std.specs.Prelude.{ℕ, zero, suc, Option, None, Some, option_map, slice_get, ◌≡◌, ◌+◌, ◌*◌, ◌/◌, ◌%◌, ◌^◌, ◌<◌, ◌≤◌, List, length, slice_index_or, if◌then◌else◌}
-use Rattle.std.specs.List.Sorted.{IsNonDecreasingBy}
+use Rattle.std.specs.Prelude.{ℕ, zero, suc, Bool, true, false, Option, None, Some, option_map, slice_get, nat_lt, ◌≡◌, ◌+◌, ◌*◌, ◌/◌, ◌%◌, ◌^◌, ◌<◌, ◌≤◌, List, length, slice_index_or, if◌then◌else◌}
 use Rattle.vg_model.specs.declared.routes.Prefix.{Prefix}
 use Rattle.vg_model.specs.declared.routes.RouteTo.{RouteTo}
-use Rattle.vg_model.specs.Route.{best_route}
-use Rattle.vg_fib.specs.Table.{Routes}
+use Rattle.vg_fib.specs.Table.{Routes, IsTable}
 use Rattle.vg_fib.specs.declared.trie.Entry.{Entry}
 use Rattle.vg_fib.specs.declared.trie.Entry.TheVariants.{Leaf, Child}
 use Rattle.vg_fib.specs.declared.trie.Levels.{Levels}
@@ -47,21 +45,49 @@ IsLevels levels = AreLevels levels.first.items levels.second.items levels.third.
 abbrev pub Spare : Levels → Type 0
 Spare levels = (length levels.second.items < 65536 * 256) × (length levels.third.items < 65536 * 256)
 
--- at so many places from one on stands this value, and at the others what stood there
-pub record IsFilled {T : Type 0} (from count : ℕ) (value : T) (old new : List T) : Type 0 where
+-- numbers at so many places from one on are raised, and the others are what they were
+pub record IsRaised (f : ℕ → ℕ) (from count : ℕ) (old new : List ℕ) : Type 0 where
   pub same_length : length new ≡ length old
-  pub inside : (k : ℕ) (d : T) → from ≤ k → k < from + count → slice_index_or new k d ≡ value
-  pub outside : (k : ℕ) (d : T) → (from ≤ k → k < from + count → ⊥) → slice_index_or new k d ≡ slice_index_or old k d
+  pub inside : (k : ℕ) → from ≤ k → k < from + count → slice_index_or new k 0 ≡ f (slice_index_or old k 0)
+  pub outside : (k : ℕ) → (from ≤ k → k < from + count → ⊥) → slice_index_or new k 0 ≡ slice_index_or old k 0
 
--- the addresses of a prefix got this number, and no others changed; children are made only where they are needed
-pub record IsPut (prefix : Prefix) (number : ℕ) (old new : Levels) : Type 0 where
+-- no entry got a child
+abbrev pub HasNoMore : List Entry → List Entry → Type 0
+HasNoMore old new = (k c : ℕ) → slice_index_or new k (Leaf 0) ≡ Child c → slice_index_or old k (Leaf 0) ≡ Child c
+
+-- the numbers under so many places of the second level are raised, and the others are what they were
+pub record IsRaisedSecond (f : ℕ → ℕ) (from count : ℕ) (old : List Entry) (old_third : List ℕ) (new : List Entry) (new_third : List ℕ) : Type 0 where
+  pub same_length : length new ≡ length old
+  pub third : length new_third ≡ length old_third
+  pub no_more : HasNoMore old new
+  pub inside : (k address : ℕ) → from ≤ k → k < from + count
+      → number_in new_third (slice_index_or new k (Leaf 0)) address ≡ f (number_in old_third (slice_index_or old k (Leaf 0)) address)
+  pub outside : (k address : ℕ) → (from ≤ k → k < from + count → ⊥)
+      → number_in new_third (slice_index_or new k (Leaf 0)) address ≡ number_in old_third (slice_index_or old k (Leaf 0)) address
+
+-- the numbers under so many places of the first level are raised, and the others are what they were
+pub record AreRaised (f : ℕ → ℕ) (from count : ℕ) (old old_second : List Entry) (old_third : List ℕ) (new new_second : List Entry) (new_third : List ℕ) : Type 0 where
+  pub same_length : length new ≡ length old
+  pub second : length new_second ≡ length old_second
+  pub third : length new_third ≡ length old_third
+  pub no_more : HasNoMore old new
+  pub no_more_below : HasNoMore old_second new_second
+  pub inside : (k address : ℕ) → from ≤ k → k < from + count
+      → number_under new_second new_third (slice_index_or new k (Leaf 0)) address ≡ f (number_under old_second old_third (slice_index_or old k (Leaf 0)) address)
+  pub outside : (k address : ℕ) → (from ≤ k → k < from + count → ⊥)
+      → number_under new_second new_third (slice_index_or new k (Leaf 0)) address ≡ number_under old_second old_third (slice_index_or old k (Leaf 0)) address
+
+abbrev pub IsRaisedFirst : (ℕ → ℕ) → ℕ → ℕ → Levels → Levels → Type 0
+IsRaisedFirst f from count old new =
+    AreRaised f from count old.first.items old.second.items old.third.items new.first.items new.second.items new.third.items
+
+-- the numbers of the addresses of a prefix are raised, and no others; a prefix makes at most one child of each level
+pub record IsPut (prefix : Prefix) (f : ℕ → ℕ) (old new : Levels) : Type 0 where
   pub shape : IsLevels new
   pub numbers : (address : ℕ) → address < 2 ^ 32
-      → number_at new address ≡ (if prefix_covers prefix address then number else number_at old address)
+      → number_at new address ≡ (if prefix_covers prefix address then f (number_at old address) else number_at old address)
   pub second_grows : length new.second.items ≤ length old.second.items + 256
   pub third_grows : length new.third.items ≤ length old.third.items + 256
-  pub short : prefix.len ≤ 16 → length new.second.items ≡ length old.second.items
-  pub middle : prefix.len ≤ 24 → length new.third.items ≡ length old.third.items
 
 -- a place of the first level has this child, and no address's number changed
 pub record GivesFirstChild (place child : ℕ) (old new : Levels) : Type 0 where
@@ -80,30 +106,68 @@ pub record GivesSecondChild (place child : ℕ) (old new : Levels) : Type 0 wher
   pub first : new.first.items ≡ old.first.items
   pub second : length new.second.items ≡ length old.second.items
 
--- a number where this route covers an address, and else another one
-abbrev pub number_after : Option (Prefix × RouteTo) → ℕ → ℕ → ℕ → ℕ
-number_after None address number other = other
-number_after (Some route) address number other = if prefix_covers route.0 address then number else other
+-- how many bits a route's prefix has, and 0 where there is no route
+abbrev pub length_if : Option (Prefix × RouteTo) → ℕ
+length_if None = 0
+length_if (Some route) = route.0.len
 
--- of the first so many routes the last one that covers the address: its place and one more, or 0 where none covers it
-abbrev pub last_number : Routes → ℕ → ℕ → ℕ
-last_number routes address zero = 0
-last_number routes address (suc place) = number_after (slice_get routes place) address (suc place) (last_number routes address place)
+-- how many bits the prefix at a place has, and 0 behind the routes
+abbrev pub length_at : Routes → ℕ → ℕ
+length_at routes place = length_if (slice_get routes place)
+
+-- how many bits the prefix of a number has: of the route at the place before it, and 0 where the number is no route's
+abbrev pub length_of : Routes → ℕ → ℕ
+length_of routes zero = 0
+length_of routes (suc place) = length_at routes place
+
+-- of two numbers that of the longer prefix, and the first where none is longer
+abbrev pub longer_of : Routes → ℕ → ℕ → ℕ
+longer_of routes number old = if nat_lt (length_of routes number) (length_of routes old) then old else number
+
+-- whether a route covers an address
+abbrev pub covers_if : Option (Prefix × RouteTo) → ℕ → Bool
+covers_if None address = false
+covers_if (Some route) address = prefix_covers route.0 address
+
+-- whether the prefix at a place covers an address
+abbrev pub covers_at : Routes → ℕ → ℕ → Bool
+covers_at routes place address = covers_if (slice_get routes place) address
+
+-- the prefix at this place covers the address, and of these places none that covers it has a longer one
+pub record IsLongestOf (routes : Routes) (places : ℕ → Type 0) (address place : ℕ) : Type 0 where
+  pub within : place < length routes
+  pub covers : covers_at routes place address ≡ true
+  pub longest : (k : ℕ) → k < length routes → places k → covers_at routes k address ≡ true → length_at routes k ≤ length_at routes place
+
+-- an address's number among these places: that of the longest prefix that covers it, or 0 where none of them covers it
+abbrev pub IsBestOf : Routes → (ℕ → Type 0) → ℕ → ℕ → Type 0
+IsBestOf routes places address zero = (k : ℕ) → k < length routes → places k → covers_at routes k address ≡ false
+IsBestOf routes places address (suc place) = IsLongestOf routes places address place
+
+-- the first so many routes are put into these levels: each address has its best number among them
+pub record HasFirst (routes : Routes) (known : ℕ) (levels : Levels) : Type 0 where
+  pub shape : IsLevels levels
+  pub numbers : (address : ℕ) → address < 2 ^ 32 → IsBestOf routes (λ k. k < known) address (number_at levels address)
+  pub second_few : length levels.second.items ≤ 256 * known
+  pub third_few : length levels.third.items ≤ 256 * known
+
+-- all routes are put into these levels, and are a table's
+pub record IsTrie (routes : Routes) (levels : Levels) : Type 0 where
+  pub table : IsTable routes
+  pub has : HasFirst routes (length routes) levels
 
 -- the target of a number: that of the route at the place before it, and none for 0
 abbrev pub target_of : Routes → ℕ → Option RouteTo
 target_of routes zero = None
 target_of routes (suc place) = option_map (λ route. route.1) (slice_get routes place)
 
--- each address has the number of the last route that covers it
-abbrev pub GivesLast : Levels → Routes → Type 0
-GivesLast levels routes = (address : ℕ) → address < 2 ^ 32 → number_at levels address ≡ last_number routes address (length routes)
+-- the prefixes of some routes are the first of these, in the same order
+pub record BeginsWith (routes first : Routes) : Type 0 where
+  pub few : length first ≤ length routes
+  pub same : (k : ℕ) (d : Prefix × RouteTo) → k < length first → (slice_index_or first k d).0 ≡ (slice_index_or routes k d).0
 
--- each address has a number within the routes, which is that of its best route
-abbrev pub GivesRoutes : Levels → Routes → Type 0
-GivesRoutes levels routes = (address : ℕ) → address < 2 ^ 32
-    → (number_at levels address ≤ length routes) × (target_of routes (number_at levels address) ≡ best_route routes address)
-
--- no prefix is longer than a later one
-abbrev pub IsByLength : Routes → Type 0
-IsByLength routes = IsNonDecreasingBy (λ route. route.0.len) routes
+-- these are the places from one on, below another
+pub record AreFrom (known all : ℕ) (order : List ℕ) : Type 0 where
+  pub count : length order + known ≡ all
+  pub within : (i : ℕ) → i < length order → slice_index_or order i 0 < all
+  pub each : (k : ℕ) → known ≤ k → k < all → (i : ℕ) × (i < length order) × (slice_index_or order i 0 ≡ k)

@@ -1,8 +1,8 @@
 //! The trie of IPv4 routes, for look-ups in the packet path.
-ghost use Rattle.std.specs.Prelude.{◌≡◌, ℕ, ◌+◌, ◌*◌, ◌<◌, ◌≤◌, ◌^◌, ◌-◌, ◌/◌, ◌%◌, ◌++◌, IfOk, [], length, replicate, IsPermutation};
+ghost use Rattle.std.specs.Prelude.{◌≡◌, ℕ, true, ◌+◌, ◌*◌, ◌<◌, ◌≤◌, ◌^◌, ◌-◌, ◌/◌, ◌%◌, ◌++◌, IfOk, [], length, replicate};
 ghost use Rattle.vg_model.specs.Route.{best_route};
 ghost use Rattle.vg_model.specs.Edit.{most_routes};
-ghost use Rattle.vg_fib.specs.Trie.{GivesFirstChild, GivesLast, GivesSecondChild, IsByLength, IsFilled, IsLevels, IsPut, number_at, Spare};
+ghost use Rattle.vg_fib.specs.Trie.{AreFrom, BeginsWith, GivesFirstChild, GivesSecondChild, HasChildren, HasFirst, IsLevels, IsPut, IsRaised, IsRaisedFirst, IsRaisedSecond, length_at, length_of, longer_of, number_at, Spare};
 
 use crate::table::Fib;
 use std::alloc::Global;
@@ -64,19 +64,24 @@ impl Levels {
         })
     }
 
-    // The levels with these routes put in, and no others. A route's number is its place and one more, and 0 is no route. The
-    // memory is taken up again.
-    fn of(self, routes: &[(Prefix, RouteTo)]) -> Result<Levels, Memory>
+    // Puts the routes from this place on in, where those before it are in. A route's number is its place and one more,
+    // and 0 is no route. Shorter prefixes are put first, so that the children of longer ones are not gone through.
+    fn put_from(
+        &mut self,
+        alloc: Global,
+        routes: &[(Prefix, RouteTo)],
+        known: usize,
+    ) -> Result<(), Memory>
         requires few { length routes.now ≤ most_routes }
-        requires by_length { IsByLength routes.now }
-        ensures shape { IfOk result (λ levels. IsLevels levels) }
-        ensures numbers { IfOk result (λ levels. GivesLast levels routes.now) }
+        requires known { known ≤ length routes.now }
+        requires has { HasFirst routes.now known self.old }
+        ensures { IfOk result (λ _. HasFirst routes.now (length routes.now) self.new) }
     {
-        let mut levels = self.emptied()?;
-        for (place, route) in routes.iter().enumerate() {
-            levels.put(route.0, place as u16 + 1)?;
+        let order = by_length(alloc, routes, known)?;
+        for place in &order {
+            self.put(routes, routes[usize::from(*place)].0, *place + 1)?;
         }
-        Ok(levels)
+        Ok(())
     }
 
     // The number of an address's route: 0 where it has none.
@@ -96,68 +101,105 @@ impl Levels {
         }
     }
 
-    // Gives the addresses of a prefix this number. No longer prefix was put before, so each place that
-    // it covers is a leaf.
-    fn put(&mut self, prefix: Prefix, number: u16) -> Result<(), Memory>
+    // Gives the addresses of a prefix the number of its route, but for those that have a longer route.
+    fn put(
+        &mut self,
+        routes: &[(Prefix, RouteTo)],
+        prefix: Prefix,
+        number: u16,
+    ) -> Result<(), Memory>
         requires shape { IsLevels self.old }
         requires room { Spare self.old }
-        requires short { prefix.len ≤ 16 → length self.old.second.items ≡ 0 }
-        requires middle { prefix.len ≤ 24 → length self.old.third.items ≡ 0 }
-        ensures { IfOk result (λ _. IsPut prefix number self.old self.new) }
+        ensures { IfOk result (λ _. IsPut prefix (longer_of routes.now number) self.old self.new) }
     {
         if prefix.len <= 16 {
-            self.put_short(prefix, number);
+            self.put_short(routes, prefix, number);
             Ok(())
         } else if prefix.len <= 24 {
-            self.put_middle(prefix, number)
+            self.put_middle(routes, prefix, number)
         } else {
-            self.put_long(prefix, number)
+            self.put_long(routes, prefix, number)
         }
     }
 
     // Puts a prefix of at most 16 bits.
-    fn put_short(&mut self, prefix: Prefix, number: u16)
+    fn put_short(&mut self, routes: &[(Prefix, RouteTo)], prefix: Prefix, number: u16)
         requires shape { IsLevels self.old }
         requires short { prefix.len ≤ 16 }
-        requires no_child { (length self.old.second.items ≡ 0) × (length self.old.third.items ≡ 0) }
-        ensures { IsPut prefix number self.old self.new }
+        ensures { IsPut prefix (longer_of routes.now number) self.old self.new }
     {
         let from = prefix.addr as usize >> 16;
         let count = 1 << (16 - prefix.len);
-        fill(&mut self.first, from, count, Entry::Leaf(number));
+        self.raise_first(routes, number, from, count);
     }
 
     // Puts a prefix of 17 to 24 bits.
-    fn put_middle(&mut self, prefix: Prefix, number: u16) -> Result<(), Memory>
+    fn put_middle(
+        &mut self,
+        routes: &[(Prefix, RouteTo)],
+        prefix: Prefix,
+        number: u16,
+    ) -> Result<(), Memory>
         requires shape { IsLevels self.old }
         requires room { Spare self.old }
         requires longer { 16 < prefix.len }
         requires middle { prefix.len ≤ 24 }
-        requires no_child { length self.old.third.items ≡ 0 }
-        ensures { IfOk result (λ _. IsPut prefix number self.old self.new) }
+        ensures { IfOk result (λ _. IsPut prefix (longer_of routes.now number) self.old self.new) }
     {
         let address = prefix.addr as usize;
         let child = self.first_child(address >> 16)?;
         let from = CHILD * child + (address >> 8) % CHILD;
         let count = 1 << (24 - prefix.len);
-        fill(&mut self.second, from, count, Entry::Leaf(number));
+        raise_second(&mut self.second, &mut self.third, routes, number, from, count);
         Ok(())
     }
 
     // Puts a prefix of 25 to 32 bits.
-    fn put_long(&mut self, prefix: Prefix, number: u16) -> Result<(), Memory>
+    fn put_long(
+        &mut self,
+        routes: &[(Prefix, RouteTo)],
+        prefix: Prefix,
+        number: u16,
+    ) -> Result<(), Memory>
         requires shape { IsLevels self.old }
         requires room { Spare self.old }
         requires longer { 24 < prefix.len }
-        ensures { IfOk result (λ _. IsPut prefix number self.old self.new) }
+        ensures { IfOk result (λ _. IsPut prefix (longer_of routes.now number) self.old self.new) }
     {
         let address = prefix.addr as usize;
         let parent = self.first_child(address >> 16)?;
         let child = self.second_child(CHILD * parent + (address >> 8) % CHILD)?;
         let from = CHILD * child + address % CHILD;
         let count = 1 << (32 - prefix.len);
-        fill(&mut self.third, from, count, number);
+        raise_third(&mut self.third, routes, number, from, count);
         Ok(())
+    }
+
+    // Gives all addresses under so many places of the first level this number, but for those that have a longer route.
+    fn raise_first(
+        &mut self,
+        routes: &[(Prefix, RouteTo)],
+        number: u16,
+        from: usize,
+        count: usize,
+    )
+        requires shape { IsLevels self.old }
+        requires places { from + count ≤ 65536 }
+        ensures { IsRaisedFirst (longer_of routes.now number) from count self.old self.new }
+    {
+        for place in from..from + count {
+            match self.first[place] {
+                Entry::Leaf(old) => self.first[place] = Entry::Leaf(longer_of(routes, number, old)),
+                Entry::Child(child) => raise_second(
+                    &mut self.second,
+                    &mut self.third,
+                    routes,
+                    number,
+                    CHILD * child as usize,
+                    CHILD,
+                ),
+            }
+        }
     }
 
     // The child of a place of the first level. One that is made says what its parent's entry said.
@@ -202,19 +244,19 @@ impl Levels {
 #[derive(Drop)]
 pub struct Mtrie {
     levels: Levels,
-    // In the order in which they were put: shorter prefixes stand before longer ones.
+    // In the order of their table.
     routes: Vec<(Prefix, RouteTo)>,
 }
 
 impl Model for Mtrie {
     ghost use Rattle.vg_fib.specs.Table.{Routes};
-    ghost use Rattle.vg_fib.specs.Trie.{GivesRoutes, IsLevels};
+    ghost use Rattle.vg_fib.specs.Trie.{IsTrie};
 
     ghost Value = { Routes };
 
     ghost view = { λ trie. trie.routes.items };
 
-    ghost invariant = { λ trie. IsLevels trie.levels × GivesRoutes trie.levels trie.routes.items };
+    ghost invariant = { λ trie. IsTrie trie.routes.items trie.levels };
 }
 
 impl Mtrie {
@@ -224,29 +266,54 @@ impl Mtrie {
     ///
     /// [`Memory`] where memory runs out.
     pub fn build(alloc: Global, fib: &Fib) -> Result<Mtrie, Memory>
-        ensures { IfOk result (λ trie. (address : ℕ) → best_route trie address ≡ best_route fib.now address) }
+        ensures routes { IfOk result (λ trie. trie ≡ fib.now) }
+        ensures finds { IfOk result (λ trie. (address : ℕ) → best_route trie address ≡ best_route fib.now address) }
     {
-        Mtrie::over(Levels::bare(alloc), Vec::new(alloc), fib)
+        let nothing = Mtrie {
+            levels: Levels::bare(alloc).emptied()?,
+            routes: Vec::new(alloc),
+        };
+        nothing.grown(alloc, fib)
     }
 
-    /// The same as [`Mtrie::build`], in the memory of this trie as far as it is enough.
+    /// The same as [`Mtrie::build`], in the memory of this trie as far as it is enough. Where the prefixes of this trie are the
+    /// first of the table, only what is new is put in; else all is put in again.
     ///
     /// # Errors
     ///
     /// [`Memory`] where memory runs out.
-    pub fn rebuilt(self, fib: &Fib) -> Result<Mtrie, Memory>
-        ensures { IfOk result (λ trie. (address : ℕ) → best_route trie address ≡ best_route fib.now address) }
+    pub fn renewed(self, alloc: Global, fib: &Fib) -> Result<Mtrie, Memory>
+        ensures routes { IfOk result (λ trie. trie ≡ fib.now) }
+        ensures finds { IfOk result (λ trie. (address : ℕ) → best_route trie address ≡ best_route fib.now address) }
     {
-        let Mtrie { levels, routes } = self;
-        Mtrie::over(levels, routes, fib)
+        if begins_with(fib.routes(), self.routes.as_slice()) {
+            return self.grown(alloc, fib);
+        }
+        let Mtrie { levels, mut routes } = self;
+        routes.clear();
+        let nothing = Mtrie {
+            levels: levels.emptied()?,
+            routes,
+        };
+        nothing.grown(alloc, fib)
     }
 
-    // The trie of a table's routes, in this memory.
-    fn over(levels: Levels, routes: Vec<(Prefix, RouteTo)>, fib: &Fib) -> Result<Mtrie, Memory>
-        ensures { IfOk result (λ trie. (address : ℕ) → best_route trie address ≡ best_route fib.now address) }
+    // The trie of a table whose first prefixes are those of this trie: their targets are the table's, and the other
+    // prefixes are put in.
+    fn grown(self, alloc: Global, fib: &Fib) -> Result<Mtrie, Memory>
+        requires { BeginsWith fib.now self }
+        ensures { IfOk result (λ trie. trie ≡ fib.now) }
     {
-        let routes = by_length(routes, fib.routes())?;
-        let levels = levels.of(routes.as_slice())?;
+        let Mtrie {
+            mut levels,
+            mut routes,
+        } = self;
+        let known = routes.len();
+        routes.clear();
+        if routes.extend_from_slice(fib.routes()).is_err() {
+            return Err(Memory);
+        }
+        levels.put_from(alloc, routes.as_slice(), known)?;
         Ok(Mtrie { levels, routes })
     }
 
@@ -262,31 +329,110 @@ impl Mtrie {
     }
 }
 
-// The routes in the order in which they are put: shorter prefixes stand before longer ones. The memory of a list is taken up again.
-fn by_length(
-    mut sorted: Vec<(Prefix, RouteTo)>,
-    routes: &[(Prefix, RouteTo)],
-) -> Result<Vec<(Prefix, RouteTo)>, Memory>
-    ensures moved { IfOk result (λ sorted. IsPermutation routes.now sorted.items) }
-    ensures sorted { IfOk result (λ sorted. IsByLength sorted.items) }
+// Whether these prefixes are the first of the routes, in the same order.
+fn begins_with(routes: &[(Prefix, RouteTo)], first: &[(Prefix, RouteTo)]) -> bool
+    ensures { result ≡ true → BeginsWith routes.now first.now }
 {
-    sorted.clear();
-    if sorted.extend_from_slice(routes).is_err() {
-        return Err(Memory);
+    if first.len() > routes.len() {
+        return false;
     }
-    match sorted.sort_by_key(|route| route.0.len) {
-        Ok(()) => Ok(sorted),
+    for place in 0..first.len() {
+        if routes[place].0 != first[place].0 {
+            return false;
+        }
+    }
+    true
+}
+
+// The places from this one on, those of shorter prefixes first.
+fn by_length(
+    alloc: Global,
+    routes: &[(Prefix, RouteTo)],
+    known: usize,
+) -> Result<Vec<u16>, Memory>
+    requires few { length routes.now ≤ most_routes }
+    requires known { known ≤ length routes.now }
+    ensures { IfOk result (λ order. AreFrom known (length routes.now) order.items) }
+{
+    let Ok(mut order) = Vec::with_capacity(alloc, routes.len() - known) else {
+        return Err(Memory);
+    };
+    for place in known..routes.len() {
+        order.push_reserved(place as u16);
+    }
+    match order.sort_by_key(|place| length_at(routes, usize::from(*place))) {
+        Ok(()) => Ok(order),
         Err(_) => Err(Memory),
     }
 }
 
-// Writes a value at so many places from one on.
-fn fill<T: Copy>(entries: &mut Vec<T>, from: usize, count: usize, value: T)
-    requires { from + count ≤ length entries.old.items }
-    ensures { IsFilled from count value entries.old.items entries.new.items }
+// How many bits the prefix at a place has; 0 behind the routes.
+fn length_at(routes: &[(Prefix, RouteTo)], place: usize) -> u8
+    ensures { result ≡ length_at routes.now place }
+{
+    match routes.get(place) {
+        Some(route) => route.0.len,
+        None => 0,
+    }
+}
+
+// How many bits the prefix of a number has; 0 where the number is no route's.
+fn length_of(routes: &[(Prefix, RouteTo)], number: u16) -> u8
+    ensures { result ≡ length_of routes.now number }
+{
+    match number {
+        0 => 0,
+        _ => length_at(routes, usize::from(number) - 1),
+    }
+}
+
+// Which of two numbers stands where both routes cover: the new one, unless the old one's prefix is longer.
+fn longer_of(routes: &[(Prefix, RouteTo)], number: u16, old: u16) -> u16
+    ensures { result ≡ longer_of routes.now number old }
+{
+    if length_of(routes, number) < length_of(routes, old) {
+        old
+    } else {
+        number
+    }
+}
+
+// Gives all addresses under so many places of the second level this number, but for those that have a longer route.
+fn raise_second(
+    second: &mut Vec<Entry>,
+    third: &mut Vec<u16>,
+    routes: &[(Prefix, RouteTo)],
+    number: u16,
+    from: usize,
+    count: usize,
+)
+    requires places { from + count ≤ length second.old.items }
+    requires children { HasChildren second.old.items (length third.old.items) }
+    ensures { IsRaisedSecond (longer_of routes.now number) from count second.old.items third.old.items second.new.items third.new.items }
 {
     for place in from..from + count {
-        entries[place] = value;
+        match second[place] {
+            Entry::Leaf(old) => second[place] = Entry::Leaf(longer_of(routes, number, old)),
+            Entry::Child(child) => {
+                raise_third(third, routes, number, CHILD * child as usize, CHILD)
+            }
+        }
+    }
+}
+
+// Gives so many places of the third level this number, but for those that have a longer route's.
+fn raise_third(
+    third: &mut Vec<u16>,
+    routes: &[(Prefix, RouteTo)],
+    number: u16,
+    from: usize,
+    count: usize,
+)
+    requires { from + count ≤ length third.old.items }
+    ensures { IsRaised (longer_of routes.now number) from count third.old.items third.new.items }
+{
+    for place in from..from + count {
+        third[place] = longer_of(routes, number, third[place]);
     }
 }
 

@@ -1,7 +1,13 @@
-use Rattle.std.proofs.Common.{rules}
-use Rattle.std.proofs.lemmas.List.Sorted.{IsNonDecreasingBy-from_sort_by_key}
+use Rattle.std.proofs.Common.{◌≡◌, ℕ, ◌+◌, ◌-◌, ◌<◌, ◌≤◌, length, get_or, refl, subst, sym, ◌∙◌, arith}
+use Rattle.std.proofs.lemmas.List.Sorted.{Contains-permutation, length_permutation}
+use Rattle.std.proofs.lemmas.List.Elements.{Contains-get_or}
+use Rattle.std.specs.Prelude.{IsPermutation}
+use Rattle.vg_fib.specs.Trie.{AreFrom}
+use Rattle.vg_fib.proofs.NumberLemmas.{from_permutation}
 use Rattle.vg_fib.proofs.trie.by_length.Goals as goal
 
-pub returns-in-Ok-clause-sorted : goal.returns-in-Ok-clause-sorted
-returns-in-Ok-clause-sorted c =
-    IsNonDecreasingBy-from_sort_by_key (λ route. route.0.len) _ c.in-Ok.ensures.sorted (λ a r q k. search rules)
+pub returns-in-Ok-sort_by_key : goal.returns-in-Ok-sort_by_key
+returns-in-Ok-sort_by_key c =
+    let all : c.loop-place.place ≡ length c.args.routes.now = omega (arith, c.loop-place.auto.place-end, c.loop-place-test.false, c.requires.known) in
+    from_permutation c.args.known (length c.args.routes.now) c.loop-place.order.items c.sort_by_key.new.self.items
+    (c.loop-place.invariant.count ∙ all) c.loop-place.invariant.is c.sort_by_key.ensures.permutation

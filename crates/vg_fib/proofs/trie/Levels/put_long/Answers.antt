@@ -3,7 +3,7 @@ use Rattle.std.proofs.lemmas.Nat.{one_shl}
 use Rattle.std.specs.Prelude.{if◌then◌else◌}
 use Rattle.vg_fib.specs.declared.trie.Entry.TheVariants.{Child}
 use Rattle.vg_fib.specs.Laws.{prefix_covers}
-use Rattle.vg_fib.specs.Trie.{IsFilled}
+use Rattle.vg_fib.specs.Trie.{IsRaised, longer_of}
 use Rattle.vg_fib.proofs.SpanLemmas.{long_span}
 use Rattle.vg_fib.proofs.LevelLemmas.{entry, long_numbers, long_levels}
 use Rattle.vg_fib.proofs.trie.Levels.put_long.Goals as goal
@@ -16,8 +16,8 @@ second_child-requires-clause-place c =
     let gives = c.in_ok-parent.ensures in
     omega (arith, gives.shape.first_children.within _ _ gives.is)
 
-pub fill-requires : goal.fill-requires
-fill-requires c =
+pub raise_third-requires : goal.raise_third-requires
+raise_third-requires c =
     let prefix = c.args.prefix in
     let gives = c.in_ok-child.ensures in
     omega (arith, long_span prefix c.requires.longer, one_shl (32 - prefix.len) 64 (omega arith), gives.shape.second_children.within _ _ gives.is)
@@ -25,7 +25,7 @@ fill-requires c =
 pub returns : goal.returns
 returns c =
     let prefix = c.args.prefix in
-    let number = c.args.number in
+    let f = longer_of c.args.routes.now c.args.number in
     let parent = c.in_ok-parent.parent in
     let child = c.in_ok-child.child in
     let above = c.in_ok-parent.ensures in
@@ -34,17 +34,15 @@ returns c =
     let first = levels.first.items in
     let second = levels.second.items in
     let third = levels.third.items in
-    let new = c.fill.new.entries.items in
+    let new = c.raise_third.new.third.items in
     let from = 256 * child + prefix.addr % 256 in
-    let filled = subst (λ count. IsFilled from count number third new) (one_shl (32 - prefix.len) 64 (omega arith)) c.fill.ensures in
+    let raised = subst (λ count. IsRaised f from count third new) (one_shl (32 - prefix.len) 64 (omega arith)) c.raise_third.ensures in
     let parent_is : entry first (prefix.addr / 65536) ≡ Child parent = subst (λ entries. entry entries (prefix.addr / 65536) ≡ Child parent) (sym gives.first) above.is in
     record {
-      shape = long_levels from (2 ^ (32 - prefix.len)) number first second third new gives.shape filled;
+      shape = long_levels f from (2 ^ (32 - prefix.len)) first second third new gives.shape raised;
       numbers = λ address bound.
-          long_numbers prefix number parent child first second third new gives.shape c.requires.longer parent_is gives.is filled address
-          ∙ ap (λ old. if prefix_covers prefix address then number else old) (gives.numbers address ∙ above.numbers address);
+          long_numbers prefix f parent child first second third new gives.shape c.requires.longer parent_is gives.is raised address
+          ∙ ap (λ old. if prefix_covers prefix address then f old else old) (gives.numbers address ∙ above.numbers address);
       second_grows = omega (arith, gives.second, above.grows);
-      third_grows = omega (arith, filled.same_length, gives.grows, ap length above.same);
-      short = λ short. absurd (omega (arith, c.requires.longer));
-      middle = λ middle. absurd (omega (arith, c.requires.longer));
+      third_grows = omega (arith, raised.same_length, gives.grows, ap length above.same);
     }

@@ -1,0 +1,11 @@
+use Rattle.std.proofs.Common.{◌≡◌, ℕ, ap, length, subst, sym, ◌∙◌, arith, rules}
+use Rattle.vg_fib.specs.Trie.{BeginsWith, HasFirst}
+use Rattle.vg_fib.proofs.NumberLemmas.{has_renewed}
+use Rattle.vg_fib.proofs.trie.Mtrie.grown.Goals as goal
+
+pub put_from-requires-clause-has : goal.put_from-requires-clause-has
+put_from-requires-clause-has c =
+    let first = c.self.inside.routes.items in
+    let all : c.as_slice.result.now ≡ c.args.fib.now = search rules in
+    let begins : BeginsWith c.as_slice.result.now first = rw (all, c.self.view_is) c.requires in
+    has_renewed c.as_slice.result.now first c.len-known.result c.self.inside.levels (search rules) begins c.self.invariant.has

@@ -1,0 +1,38 @@
+use Rattle.std.proofs.Common.{◌≡◌, ℕ, ◌+◌, ◌-◌, ◌*◌, ◌<◌, ◌≤◌, length, refl, subst, arith}
+use Rattle.vg_fib.specs.Trie.{IsRaisedSecond, HasChildren, longer_of}
+use Rattle.vg_fib.proofs.LevelLemmas.{entry_read, fewer_children}
+use Rattle.vg_fib.proofs.RaiseLemmas.{leaf_raised_second, child_raised_second, counted_second}
+use Rattle.vg_fib.proofs.trie.raise_second.Goals as goal
+use Rattle.vg_fib.proofs.trie.raise_second.Goals.{in-Leaf, in-Child}
+
+pub raise_third-requires : goal.raise_third-requires
+raise_third-requires c =
+    let raised = c.loop-place.invariant in
+    let place = c.loop-place.place in
+    let within : place < length c.loop-place.second.items = omega (arith, c.loop-place-test.true, c.requires.places, raised.same_length) in
+    let is = entry_read c.loop-place.second.items place _ _ within c.index.ensures c.in-Child.is in
+    omega (arith, c.requires.children.within _ _ (raised.no_more _ _ is), raised.third)
+
+pub loop-place-preserved : goal.loop-place-preserved
+loop-place-preserved c =
+    let raised = c.loop-place.invariant in
+    let place = c.loop-place.place in
+    let from = c.args.from in
+    let f = longer_of c.args.routes.now c.args.number in
+    let old = c.args.second.now.items in
+    let old_third = c.args.third.now.items in
+    let here : place ≡ from + (place - from) = omega arith in
+    let next : place - from + 1 ≡ place + 1 - from = omega arith in
+    let old_within : place < length old = omega (arith, c.loop-place-test.true, c.requires.places) in
+    let within : place < length c.loop-place.second.items = omega (arith, old_within, raised.same_length) in
+    elim c.match-index.branch [
+      | in-Leaf w ↦
+          let is = entry_read c.loop-place.second.items place _ _ within c.index.ensures w.in-Leaf.is in
+          let more = leaf_raised_second f from (place - from) place w.in-Leaf.old old c.loop-place.second.items old_third c.loop-place.third.items raised here old_within is in
+          rw (w.second-is, w.third-is, w.longer_of.ensures) (counted_second f from _ _ _ _ _ _ next more)
+      | in-Child w ↦
+          let is = entry_read c.loop-place.second.items place _ _ within c.index.ensures w.in-Child.is in
+          let more = child_raised_second f from (place - from) place w.in-Child.child old c.loop-place.second.items old_third c.loop-place.third.items _
+          c.requires.children raised here is w.raise_third.ensures in
+          rw (w.second-is, w.third-is) (counted_second f from _ _ _ _ _ _ next more)
+    ]
