@@ -4,9 +4,12 @@ ghost use Rattle.std.specs.List.{insert};
 ghost use Rattle.vg_model.specs.Route.{best_route, covers as covers_address};
 ghost use Rattle.vg_model.specs.Edit.{most_routes, placed, route_place};
 ghost use Rattle.vg_fib.specs.Table.{HasOneRouteEach, longer_behind};
+ghost use Rattle.vg_fib.specs.declared.table.FibError.TheVariants.{Memory as OutOfMemory};
 ghost use Rattle.vg_fib.specs.Order.{IsGap, IsOrder, moved_down, rank as rank_of, ranks};
 
-use std::alloc::Global;
+use std::alloc::{AllocError, Global};
+use std::error::Error;
+use std::fmt;
 use std::marker::Model;
 use vg_model::{Memory, Prefix, RouteTo};
 
@@ -22,9 +25,36 @@ pub enum FibError {
     Memory,
 }
 
+impl fmt::Display for FibError {
+    fn fmt<W: fmt::Write>(&self, f: &mut fmt::Formatter<W>) -> fmt::Result {
+        match self {
+            FibError::TooMany => write!(f, "the table has {MOST_ROUTES} routes"),
+            FibError::Memory => f.write_str("memory ran out"),
+        }
+    }
+}
+
+impl Error for FibError {}
+
+impl From<AllocError> for FibError {
+    ghost from_gives = { λ _ error. error ≡ OutOfMemory };
+
+    fn from(_error: AllocError) -> FibError {
+        FibError::Memory
+    }
+}
+
 /// The table has no route for this prefix.
 #[derive(Clone, Copy, Debug, PartialEq, Eq)]
 pub struct NoSuchRoute;
+
+impl fmt::Display for NoSuchRoute {
+    fn fmt<W: fmt::Write>(&self, f: &mut fmt::Formatter<W>) -> fmt::Result {
+        f.write_str("the prefix has no route")
+    }
+}
+
+impl Error for NoSuchRoute {}
 
 /// A forwarding information base: a list of routes, at most [`MOST_ROUTES`], in which no prefix stands twice.
 #[derive(Drop)]
@@ -88,10 +118,10 @@ impl Fib {
                 Ok(())
             }
             Err(_) if self.routes.len() >= MOST_ROUTES => Err(FibError::TooMany),
-            Err(at) => match add(&mut self.routes, &mut self.order, at, (prefix, to)) {
-                Ok(()) => Ok(()),
-                Err(Memory) => Err(FibError::Memory),
-            },
+            Err(at) => {
+                add(&mut self.routes, &mut self.order, at, (prefix, to))?;
+                Ok(())
+            }
         }
     }
 
@@ -137,13 +167,29 @@ impl Fib {
     pub fn copy(&self) -> Result<Fib, Memory>
         ensures { IfOk result (λ fib. fib ≡ self.now) }
     {
-        let Ok(routes) = self.routes.clone() else {
-            return Err(Memory);
-        };
-        let Ok(order) = self.order.clone() else {
-            return Err(Memory);
-        };
-        Ok(Fib { routes, order })
+        Fib::new(*self.routes.allocator())?.renewed(self)
+    }
+
+    /// A table that is equal to another, in the memory of this one as far as it is enough.
+    ///
+    /// # Errors
+    ///
+    /// [`Memory`] where memory runs out.
+    pub fn renewed(self, other: &Fib) -> Result<Fib, Memory>
+        ensures { IfOk result (λ fib. fib ≡ other.now) }
+    {
+        let Fib {
+            mut routes,
+            mut order,
+        } = self;
+        match overwrite(&mut routes, other.routes.as_slice()) {
+            Ok(()) => {}
+            Err(_) => return Err(Memory),
+        }
+        match overwrite(&mut order, other.order.as_slice()) {
+            Ok(()) => Ok(Fib { routes, order }),
+            Err(_) => Err(Memory),
+        }
     }
 }
 
@@ -189,7 +235,7 @@ fn add(
     order: &mut Vec<u16>,
     at: usize,
     route: (Prefix, RouteTo),
-) -> Result<(), Memory>
+) -> Result<(), AllocError>
     requires few { length routes.old.items < MOST_ROUTES }
     requires at { at ≤ length order.old.items }
     ensures routes { OnOk result (routes.new.items ≡ routes.old.items ++ route ∷ []) }
@@ -197,16 +243,18 @@ fn add(
     ensures same_routes { OnErr result (routes.new.items ≡ routes.old.items) }
     ensures same_order { OnErr result (order.new.items ≡ order.old.items) }
 {
-    if routes.reserve(1).is_err() {
-        return Err(Memory);
-    }
-    match order.insert(at, routes.len() as u16) {
-        Ok(()) => {
-            routes.push_reserved(route);
-            Ok(())
-        }
-        Err(_) => Err(Memory),
-    }
+    routes.reserve(1)?;
+    order.insert(at, routes.len() as u16)?;
+    routes.push_reserved(route);
+    Ok(())
+}
+
+// Puts these values in place of those of a list, in its memory as far as it is enough.
+pub(crate) fn overwrite<T: Copy + Drop>(list: &mut Vec<T>, values: &[T]) -> Result<(), AllocError>
+    ensures { OnOk result (list.new.items ≡ values.now) }
+{
+    list.clear();
+    list.extend_from_slice(values)
 }
 
 // The places behind one that was taken out are one less.

@@ -4,8 +4,8 @@ ghost use Rattle.vg_model.specs.Route.{best_route};
 ghost use Rattle.vg_model.specs.Edit.{most_routes};
 ghost use Rattle.vg_fib.specs.Trie.{AreFrom, BeginsWith, GivesFirstChild, GivesSecondChild, HasChildren, HasFirst, IsLevels, IsPut, IsRaised, IsRaisedFirst, IsRaisedSecond, length_at, length_of, longer_of, number_at, Spare};
 
-use crate::table::Fib;
-use std::alloc::Global;
+use crate::table::{Fib, overwrite};
+use std::alloc::{AllocError, Global};
 use std::marker::Model;
 use vg_model::{Memory, Prefix, RouteTo};
 
@@ -43,7 +43,7 @@ impl Levels {
     }
 
     // No address has a route. The memory stays.
-    fn emptied(self) -> Result<Levels, Memory>
+    fn emptied(self) -> Result<Levels, AllocError>
         ensures shape { IfOk result (λ levels. IsLevels levels) }
         ensures no_route { IfOk result (λ levels. (address : ℕ) → number_at levels address ≡ 0) }
         ensures no_child { IfOk result (λ levels. (levels.second.items ≡ []) × (levels.third.items ≡ [])) }
@@ -71,7 +71,7 @@ impl Levels {
         alloc: Global,
         routes: &[(Prefix, RouteTo)],
         known: usize,
-    ) -> Result<(), Memory>
+    ) -> Result<(), AllocError>
         requires few { length routes.now ≤ most_routes }
         requires known { known ≤ length routes.now }
         requires has { HasFirst routes.now known self.old }
@@ -107,7 +107,7 @@ impl Levels {
         routes: &[(Prefix, RouteTo)],
         prefix: Prefix,
         number: u16,
-    ) -> Result<(), Memory>
+    ) -> Result<(), AllocError>
         requires shape { IsLevels self.old }
         requires room { Spare self.old }
         ensures { IfOk result (λ _. IsPut prefix (longer_of routes.now number) self.old self.new) }
@@ -139,7 +139,7 @@ impl Levels {
         routes: &[(Prefix, RouteTo)],
         prefix: Prefix,
         number: u16,
-    ) -> Result<(), Memory>
+    ) -> Result<(), AllocError>
         requires shape { IsLevels self.old }
         requires room { Spare self.old }
         requires longer { 16 < prefix.len }
@@ -150,7 +150,14 @@ impl Levels {
         let child = self.first_child(address >> 16)?;
         let from = CHILD * child + (address >> 8) % CHILD;
         let count = 1 << (24 - prefix.len);
-        raise_second(&mut self.second, &mut self.third, routes, number, from, count);
+        raise_second(
+            &mut self.second,
+            &mut self.third,
+            routes,
+            number,
+            from,
+            count,
+        );
         Ok(())
     }
 
@@ -160,7 +167,7 @@ impl Levels {
         routes: &[(Prefix, RouteTo)],
         prefix: Prefix,
         number: u16,
-    ) -> Result<(), Memory>
+    ) -> Result<(), AllocError>
         requires shape { IsLevels self.old }
         requires room { Spare self.old }
         requires longer { 24 < prefix.len }
@@ -176,13 +183,7 @@ impl Levels {
     }
 
     // Gives all addresses under so many places of the first level this number, but for those that have a longer route.
-    fn raise_first(
-        &mut self,
-        routes: &[(Prefix, RouteTo)],
-        number: u16,
-        from: usize,
-        count: usize,
-    )
+    fn raise_first(&mut self, routes: &[(Prefix, RouteTo)], number: u16, from: usize, count: usize)
         requires shape { IsLevels self.old }
         requires places { from + count ≤ 65536 }
         ensures { IsRaisedFirst (longer_of routes.now number) from count self.old self.new }
@@ -203,7 +204,7 @@ impl Levels {
     }
 
     // The child of a place of the first level. One that is made says what its parent's entry said.
-    fn first_child(&mut self, place: usize) -> Result<usize, Memory>
+    fn first_child(&mut self, place: usize) -> Result<usize, AllocError>
         requires shape { IsLevels self.old }
         requires room { Spare self.old }
         requires place { place < 65536 }
@@ -221,7 +222,7 @@ impl Levels {
     }
 
     // The child of a place of the second level. One that is made says what its parent's entry said.
-    fn second_child(&mut self, place: usize) -> Result<usize, Memory>
+    fn second_child(&mut self, place: usize) -> Result<usize, AllocError>
         requires shape { IsLevels self.old }
         requires room { length self.old.third.items < 65536 * 256 }
         requires place { place < length self.old.second.items }
@@ -269,11 +270,10 @@ impl Mtrie {
         ensures routes { IfOk result (λ trie. trie ≡ fib.now) }
         ensures finds { IfOk result (λ trie. (address : ℕ) → best_route trie address ≡ best_route fib.now address) }
     {
-        let nothing = Mtrie {
-            levels: Levels::bare(alloc).emptied()?,
-            routes: Vec::new(alloc),
-        };
-        nothing.grown(alloc, fib)
+        match Mtrie::anew(Levels::bare(alloc), Vec::new(alloc), alloc, fib) {
+            Ok(trie) => Ok(trie),
+            Err(_) => Err(Memory),
+        }
     }
 
     /// The same as [`Mtrie::build`], in the memory of this trie as far as it is enough. Where the prefixes of this trie are the
@@ -286,10 +286,27 @@ impl Mtrie {
         ensures routes { IfOk result (λ trie. trie ≡ fib.now) }
         ensures finds { IfOk result (λ trie. (address : ℕ) → best_route trie address ≡ best_route fib.now address) }
     {
-        if begins_with(fib.routes(), self.routes.as_slice()) {
-            return self.grown(alloc, fib);
+        let answer = if begins_with(fib.routes(), self.routes.as_slice()) {
+            self.grown(alloc, fib)
+        } else {
+            let Mtrie { levels, routes } = self;
+            Mtrie::anew(levels, routes, alloc, fib)
+        };
+        match answer {
+            Ok(trie) => Ok(trie),
+            Err(_) => Err(Memory),
         }
-        let Mtrie { levels, mut routes } = self;
+    }
+
+    // The trie of a table, in this memory, whatever it says.
+    fn anew(
+        levels: Levels,
+        mut routes: Vec<(Prefix, RouteTo)>,
+        alloc: Global,
+        fib: &Fib,
+    ) -> Result<Mtrie, AllocError>
+        ensures { IfOk result (λ trie. trie ≡ fib.now) }
+    {
         routes.clear();
         let nothing = Mtrie {
             levels: levels.emptied()?,
@@ -300,7 +317,7 @@ impl Mtrie {
 
     // The trie of a table whose first prefixes are those of this trie: their targets are the table's, and the other
     // prefixes are put in.
-    fn grown(self, alloc: Global, fib: &Fib) -> Result<Mtrie, Memory>
+    fn grown(self, alloc: Global, fib: &Fib) -> Result<Mtrie, AllocError>
         requires { BeginsWith fib.now self }
         ensures { IfOk result (λ trie. trie ≡ fib.now) }
     {
@@ -309,10 +326,7 @@ impl Mtrie {
             mut routes,
         } = self;
         let known = routes.len();
-        routes.clear();
-        if routes.extend_from_slice(fib.routes()).is_err() {
-            return Err(Memory);
-        }
+        overwrite(&mut routes, fib.routes())?;
         levels.put_from(alloc, routes.as_slice(), known)?;
         Ok(Mtrie { levels, routes })
     }
@@ -349,21 +363,17 @@ fn by_length(
     alloc: Global,
     routes: &[(Prefix, RouteTo)],
     known: usize,
-) -> Result<Vec<u16>, Memory>
+) -> Result<Vec<u16>, AllocError>
     requires few { length routes.now ≤ most_routes }
     requires known { known ≤ length routes.now }
     ensures { IfOk result (λ order. AreFrom known (length routes.now) order.items) }
 {
-    let Ok(mut order) = Vec::with_capacity(alloc, routes.len() - known) else {
-        return Err(Memory);
-    };
+    let mut order = Vec::with_capacity(alloc, routes.len() - known)?;
     for place in known..routes.len() {
         order.push_reserved(place as u16);
     }
-    match order.sort_by_key(|place| length_at(routes, usize::from(*place))) {
-        Ok(()) => Ok(order),
-        Err(_) => Err(Memory),
-    }
+    order.sort_by_key(|place| length_at(routes, usize::from(*place)))?;
+    Ok(order)
 }
 
 // How many bits the prefix at a place has; 0 behind the routes.
@@ -437,10 +447,10 @@ fn raise_third(
 }
 
 // Adds so many entries with this value.
-fn add<T: Copy + Drop>(entries: &mut Vec<T>, count: usize, value: T) -> Result<(), Memory>
+fn add<T: Copy + Drop>(entries: &mut Vec<T>, count: usize, value: T) -> Result<(), AllocError>
     requires { length entries.old.items + count < 2 ^ 32 }
     ensures { IfOk result (λ _. entries.new.items ≡ entries.old.items ++ replicate count value) }
 {
     let len = entries.len() + count;
-    entries.resize(len, value).map_err(|_| Memory)
+    entries.resize(len, value)
 }

@@ -6,8 +6,8 @@ use Rattle.vg_fib.specs.Trie.{AreFrom}
 use Rattle.vg_fib.proofs.NumberLemmas.{from_permutation}
 use Rattle.vg_fib.proofs.trie.by_length.Goals as goal
 
-pub returns-in-Ok-sort_by_key : goal.returns-in-Ok-sort_by_key
-returns-in-Ok-sort_by_key c =
+pub returns : goal.returns
+returns c =
     let all : c.loop-place.place ≡ length c.args.routes.now = omega (arith, c.loop-place.auto.place-end, c.loop-place-test.false, c.requires.known) in
     from_permutation c.args.known (length c.args.routes.now) c.loop-place.order.items c.sort_by_key.new.self.items
     (c.loop-place.invariant.count ∙ all) c.loop-place.invariant.is c.sort_by_key.ensures.permutation

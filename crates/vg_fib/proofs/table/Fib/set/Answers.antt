@@ -6,7 +6,6 @@ use Rattle.vg_model.specs.Edit.{route_place}
 use Rattle.vg_fib.proofs.TableLemmas.{table_set}
 use Rattle.vg_fib.proofs.OrderLemmas.{place_read, order_set, pushed, stayed}
 use Rattle.vg_fib.proofs.table.Fib.set.Goals as goal
-use Rattle.vg_fib.proofs.table.Fib.set.Goals.{in-Ok-add, in-Err-add}
 
 pub index_mut-requires : goal.index_mut-requires
 index_mut-requires c =
@@ -25,14 +24,9 @@ invariant_of-self c =
 pub invariant_of-self-in-Err-2 : goal.invariant_of-self-in-Err-2
 invariant_of-self-in-Err-2 c =
     let room : length c.self.inside.routes.items < 4096 = omega (arith, c.len.ensures, c.if-len-ge-MOST_ROUTES.false, c.self.inside.routes.ok) in
-    elim c.match-add.branch [
-      | in-Ok-add w ↦
-          pushed c.args.prefix c.args.to c.self.inside.routes.items c.as_slice.result.now c.add.new.routes.items c.self.inside.order.items c.as_slice-2.result.now c.add.new.order.items
-          c.in-Err-2.at c.self.invariant c.as_slice.ensures.value c.as_slice-2.ensures.value c.in-Err-2.ensures room w.in-Ok-add.ensures.routes
-          (w.in-Ok-add.ensures.order ∙ ap (λ n. insert c.self.inside.order.items n (length c.self.inside.routes.items)) c.in-Err-2.at-is)
-      | in-Err-add w ↦
-          stayed c.self.inside.routes.items c.add.new.routes.items c.self.inside.order.items c.add.new.order.items c.self.invariant w.in-Err-add.ensures.same_routes w.in-Err-add.ensures.same_order
-    ]
+    pushed c.args.prefix c.args.to c.self.inside.routes.items c.as_slice.result.now c.add.new.routes.items c.self.inside.order.items c.as_slice-2.result.now c.add.new.order.items
+    c.in-Err-2.at c.self.invariant c.as_slice.ensures.value c.as_slice-2.ensures.value c.in-Err-2.ensures room c.in_ok-add-in-Err-2.ensures.routes
+    (c.in_ok-add-in-Err-2.ensures.order ∙ ap (λ n. insert c.self.inside.order.items n (length c.self.inside.routes.items)) c.in-Err-2.at-is)
 
 pub returns-in-Ok-clause-set : goal.returns-in-Ok-clause-set
 returns-in-Ok-clause-set c =
@@ -53,11 +47,3 @@ returns-in-Err-clause-full c =
     let len = ap length c.self.view_is in
     ((λ e. (none, omega (arith, len, c.if-len-ge-MOST_ROUTES.true, c.len.ensures, c.self.inside.routes.ok))), (λ p. refl))
 
-pub returns-after-add-clause-set : goal.returns-after-add-clause-set
-returns-after-add-clause-set c =
-    let none = ap (route_place c.args.prefix) (sym c.as_slice.ensures.value) ∙ c.in-Err-2.ensures.0 in
-    let room : nat_le 4096 (length c.self.inside.routes.items) ≡ false = lt-leb _ _ (omega (arith, c.len.ensures, c.if-len-ge-MOST_ROUTES.false, c.self.inside.routes.ok)) in
-    elim c.match-add.branch [
-      | in-Ok-add w ↦ rw (w.result-is, w.in-Ok-add.ensures.routes, ← c.self.view_is, none, room) refl
-      | in-Err-add w ↦ rw w.result-is tt
-    ]

@@ -1,5 +1,5 @@
 use Rattle.vg_fib.proofs.NumberLemmas.{nothing_put}
-use Rattle.vg_fib.proofs.trie.Mtrie.renewed.Goals as goal
+use Rattle.vg_fib.proofs.trie.Mtrie.anew.Goals as goal
 
 pub invariant_of-nothing : goal.invariant_of-nothing
 invariant_of-nothing c =
