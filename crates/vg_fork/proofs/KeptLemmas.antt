@@ -8,4 +8,4 @@ use Rattle.vg_fork.specs.declared.forks.Fork.TheInside.{Inside}
 -- but for its routes a fork's graph is kept
 pub forked_of : (f : Inside) (seen : Forked) → view_of f ≡ seen → IsFork f → IsForked seen
 forked_of f seen e is =
-    subst IsForked e (subst IsKept (ap (with_routes f.graph) is.kept.no_routes) is.kept)
+    subst IsForked e (subst IsKept (ap (with_routes f.graph) is.no_routes) is)

@@ -7,18 +7,18 @@ ghost use Rattle.vg_fork.specs.Forked.{forked, IsForked};
 
 use std::alloc::Global;
 use std::marker::Model;
+use std::sync::Arc;
 use vg_fib::{Fib, Mtrie};
 use vg_graph::Graph;
-use vg_model::{Adjacency, Interface, Kind, Memory, Prefix, RouteTo};
+use vg_model::{Adjacency, Interface, Kind, Memory, RouteTo};
 
 /// One generation of the whole graph: its nodes, interfaces and adjacencies by number, and its routes in a trie.
+///
+/// Forks of one generation can share a trie ([`Fork::shared`]), which is not changed while more than one fork has it.
 #[derive(Drop)]
 pub struct Fork {
     graph: Graph,
-    // Which addresses have which routes, for look-ups.
-    trie: Mtrie,
-    // The routes in the order of their table.
-    routes: Vec<(Prefix, RouteTo)>,
+    trie: Arc<Mtrie, Global>,
     generation: u32,
 }
 
@@ -43,19 +43,11 @@ impl Fork {
     pub fn of(alloc: Global, graph: &Graph, fib: &Fib, generation: u32) -> Result<Fork, Memory>
         ensures { IfOk result (λ fork. fork ≡ forked graph.now fib.now generation) }
     {
-        know_kept(graph);
-        let Ok(routes) = Vec::from_slice(alloc, fib.routes()) else {
-            return Err(Memory);
-        };
-        Ok(Fork {
-            graph: graph.copy(alloc)?,
-            trie: Mtrie::build(alloc, fib)?,
-            routes,
-            generation,
-        })
+        Fork::over(alloc, graph, Mtrie::build(alloc, fib)?, generation)
     }
 
-    /// The same as [`Fork::of`], in the memory of this fork as far as it is enough.
+    /// The same as [`Fork::of`], in the memory of this fork as far as it is enough. Where no other fork shares its trie, that is
+    /// brought up to date in place; else it stays as it is, and a new one is built.
     ///
     /// # Errors
     ///
@@ -69,21 +61,47 @@ impl Fork {
     ) -> Result<Fork, Memory>
         ensures { IfOk result (λ fork. fork ≡ forked graph.now fib.now generation) }
     {
-        know_kept(graph);
         let Fork {
             graph: _,
             trie,
-            mut routes,
             generation: _,
         } = self;
-        routes.clear();
-        if routes.extend_from_slice(fib.routes()).is_err() {
+        let trie = match Arc::try_unwrap(trie) {
+            Ok(trie) => trie.renewed(alloc, fib)?,
+            Err(_) => Mtrie::build(alloc, fib)?,
+        };
+        Fork::over(alloc, graph, trie, generation)
+    }
+
+    /// An equal fork, for another worker: it shares the trie.
+    ///
+    /// # Errors
+    ///
+    /// [`Memory`] where memory runs out.
+    pub fn shared(&self, alloc: Global) -> Result<Fork, Memory>
+        ensures { IfOk result (λ fork. fork ≡ self.now) }
+    {
+        let Ok(trie) = Arc::try_clone(&self.trie) else {
             return Err(Memory);
-        }
+        };
+        Ok(Fork {
+            graph: self.graph.copy(alloc)?,
+            trie,
+            generation: self.generation,
+        })
+    }
+
+    // The fork of this graph with the routes of this trie.
+    fn over(alloc: Global, graph: &Graph, trie: Mtrie, generation: u32) -> Result<Fork, Memory>
+        ensures { IfOk result (λ fork. fork ≡ forked graph.now trie generation) }
+    {
+        know_kept(graph);
+        let Ok(trie) = Arc::new(alloc, trie) else {
+            return Err(Memory);
+        };
         Ok(Fork {
             graph: graph.copy(alloc)?,
-            trie: trie.rebuilt(fib)?,
-            routes,
+            trie,
             generation,
         })
     }
