@@ -11,6 +11,7 @@ ghost use Rattle.vg_plan.specs.Routed.{with_routes};
 use crate::plans::Plan;
 use std::alloc::Global;
 use std::marker::Model;
+use std::mem::replace;
 use vg_fib::{Fib, FibError};
 use vg_graph::{Graph, GraphError};
 use vg_model::{Edit, Edits, Memory, Prefix, RouteTo, RouteWord};
@@ -21,6 +22,8 @@ use vg_script::{ScriptCause, ScriptError};
 pub struct Master {
     graph: Graph,
     fib: Fib,
+    // The table before the last event, for its memory.
+    spare: Option<Fib>,
 }
 
 impl Model for Master {
@@ -99,6 +102,7 @@ impl Master {
         Ok(Master {
             graph: Graph::start(alloc)?,
             fib: Fib::new(alloc)?,
+            spare: None,
         })
     }
 
@@ -118,13 +122,19 @@ impl Master {
         &self.fib
     }
 
-    // An equal master.
-    fn copy(&self, alloc: Global) -> Result<Master, Memory>
-        ensures { IfOk result (λ copy. copy ≡ self.now) }
+    // An equal master, in the spare memory as far as there is any.
+    fn copy(&mut self, alloc: Global) -> Result<Master, Memory>
+        ensures copy { IfOk result (λ copy. copy ≡ self.old) }
+        ensures same { self.new ≡ self.old }
     {
+        let fib = match self.spare.take() {
+            Some(spare) => spare.renewed(&self.fib)?,
+            None => self.fib.copy()?,
+        };
         Ok(Master {
             graph: self.graph.copy(alloc)?,
-            fib: self.fib.copy()?,
+            fib,
+            spare: None,
         })
     }
 
@@ -144,7 +154,8 @@ impl Master {
             return Err(out_of_memory());
         };
         after.make(edits)?;
-        *self = after;
+        let Master { fib: before, .. } = replace(self, after);
+        self.spare = Some(before);
         Ok(())
     }
 
