@@ -1,5 +1,5 @@
 -- Numbers of routes: where all routes are put, an address's number is that of its best route.
-use Rattle.std.proofs.Common.{◌≡◌, ℕ, zero, suc, ◌+◌, ◌-◌, ◌*◌, ◌<◌, ◌≤◌, ◌^◌, ◌≢◌, ◌⊎◌, inl, inr, Bool, true, false, List, [], length, get_or, refl, sym, ◌∙◌, ap, subst, arith}
+use Rattle.std.proofs.Common.{◌≡◌, ℕ, zero, suc, ◌+◌, ◌-◌, ◌<◌, ◌≤◌, ◌≢◌, ◌⊎◌, inl, inr, true, false, List, [], length, get_or, refl, sym, ◌∙◌, ap, subst, arith}
 use Rattle.std.proofs.lemmas.Bool.{cases_eq, cases_lt, false≢true, ltb-true, ltb-false}
 use Rattle.std.proofs.lemmas.List.{get_or_default}
 use Rattle.std.proofs.lemmas.List.Elements.{Contains-get_or}
@@ -14,7 +14,7 @@ use Rattle.vg_model.specs.Route.{best_route}
 use Rattle.vg_fib.specs.declared.trie.Levels.{Levels}
 use Rattle.vg_fib.specs.Table.{Routes, HasOneRouteEach}
 use Rattle.vg_fib.specs.Laws.{prefix_covers}
-use Rattle.vg_fib.specs.Trie.{length_if, length_at, length_of, longer_of, covers_if, covers_at, target_of, IsLongestOf, IsBestOf, IsLevels, HasFirst, IsTrie, BeginsWith, AreFrom, number_at}
+use Rattle.vg_fib.specs.Trie.{length_if, length_at, length_of, longer_of, covers_if, covers_at, target_of, IsBestOf, IsLevels, HasFirst, IsTrie, BeginsWith, AreFrom, number_at}
 use Rattle.vg_fib.proofs.TableLemmas.{empty_table}
 use Rattle.vg_fib.proofs.BestLemmas.{covering, no_answer, longest_match_is_best}
 

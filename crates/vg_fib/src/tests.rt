@@ -210,6 +210,18 @@ fn agree(rt: &impl Abort, fib: &Fib, trie: &Mtrie, address: u32) {
     assert_eq!(rt; trie.find(address), fib.find(address));
 }
 
+// Whether trie and table answer the same at the first and the last address of each prefix, and beside them.
+fn agree_at_ends(rt: &impl Abort, fib: &Fib, trie: &Mtrie) {
+    for (prefix, _) in fib.routes() {
+        let first = prefix.addr;
+        let last = first | (u64::from(u32::MAX) >> prefix.len) as u32;
+        agree(rt, fib, trie, first);
+        agree(rt, fib, trie, last);
+        agree(rt, fib, trie, first.wrapping_sub(1));
+        agree(rt, fib, trie, last.wrapping_add(1));
+    }
+}
+
 #[test]
 fn trie_and_table_agree_at_the_ends_of_each_prefix(rt: HostRuntime) -> Result<(), Fail> {
     let alloc = rt.alloc();
@@ -232,13 +244,65 @@ fn trie_and_table_agree_at_the_ends_of_each_prefix(rt: HostRuntime) -> Result<()
     }
     assert_eq!(rt; fib.routes().len(), MOST_ROUTES);
     let trie = Mtrie::build(alloc, &fib)?;
-    for (prefix, _) in fib.routes() {
-        let first = prefix.addr;
-        let last = first | (u64::from(u32::MAX) >> prefix.len) as u32;
-        agree(&rt, &fib, &trie, first);
-        agree(&rt, &fib, &trie, last);
-        agree(&rt, &fib, &trie, first.wrapping_sub(1));
-        agree(&rt, &fib, &trie, last.wrapping_add(1));
-    }
+    agree_at_ends(&rt, &fib, &trie);
+    Ok(())
+}
+
+#[test]
+fn a_trie_follows_its_table(rt: HostRuntime) -> Result<(), Fail> {
+    let alloc = rt.alloc();
+    let mut fib = Fib::new(alloc)?;
+    fib.set(HOST, RouteTo::Drop)?;
+    fib.set(NET, RouteTo::Via(1))?;
+    let trie = Mtrie::build(alloc, &fib)?;
+    // A target changes, and prefixes come that lie under and over those that are there.
+    fib.set(NET, RouteTo::Via(5))?;
+    fib.set(HALF, RouteTo::Via(0))?;
+    fib.set(UPPER, RouteTo::Via(2))?;
+    fib.set(EVERYWHERE, RouteTo::Local)?;
+    let trie = trie.renewed(alloc, &fib)?;
+    assert_eq!(rt; trie.find(0x0a01_0203), Some(RouteTo::Drop));
+    assert_eq!(rt; trie.find(0x0a01_0204), Some(RouteTo::Via(5)));
+    assert_eq!(rt; trie.find(0x0a01_0280), Some(RouteTo::Via(2)));
+    assert_eq!(rt; trie.find(0x0a01_7fff), Some(RouteTo::Via(0)));
+    assert_eq!(rt; trie.find(0x0a01_8000), Some(RouteTo::Local));
+    assert_eq!(rt; trie.find(0xffff_ffff), Some(RouteTo::Local));
+    agree_at_ends(&rt, &fib, &trie);
+    // Prefixes go.
+    fib.remove(HOST)?;
+    fib.remove(EVERYWHERE)?;
+    let trie = trie.renewed(alloc, &fib)?;
+    assert_eq!(rt; trie.find(0x0a01_0203), Some(RouteTo::Via(5)));
+    assert_eq!(rt; trie.find(0x0a01_0280), Some(RouteTo::Via(2)));
+    assert_eq!(rt; trie.find(0x0a01_8000), None);
+    agree_at_ends(&rt, &fib, &trie);
+    Ok(())
+}
+
+#[test]
+fn a_table_is_renewed_from_another(rt: HostRuntime) -> Result<(), Fail> {
+    let alloc = rt.alloc();
+    let mut fib = Fib::new(alloc)?;
+    fib.set(TEN, RouteTo::Via(1))?;
+    fib.set(TEN_ONE, RouteTo::Via(2))?;
+    let mut other = Fib::new(alloc)?;
+    other.set(HOST, RouteTo::Drop)?;
+    let mut other = other.renewed(&fib)?;
+    assert_eq!(rt; other.routes(), fib.routes());
+    other.set(TEN, RouteTo::Local)?;
+    assert_eq!(rt; other.find(0x0a02_0001), Some(RouteTo::Local));
+    assert_eq!(rt; fib.find(0x0a02_0001), Some(RouteTo::Via(1)));
+    Ok(())
+}
+
+#[test]
+fn errors_say_what_is_wrong(rt: HostRuntime) -> Result<(), Fail> {
+    let alloc = rt.alloc();
+    let full = format!(in alloc; "{}", FibError::TooMany)?;
+    assert_eq!(rt; full.as_str(), "the table has 4096 routes");
+    let memory = format!(in alloc; "{}", FibError::Memory)?;
+    assert_eq!(rt; memory.as_str(), "memory ran out");
+    let missing = format!(in alloc; "{}", NoSuchRoute)?;
+    assert_eq!(rt; missing.as_str(), "the prefix has no route");
     Ok(())
 }

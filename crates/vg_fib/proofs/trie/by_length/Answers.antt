@@ -1,8 +1,4 @@
-use Rattle.std.proofs.Common.{◌≡◌, ℕ, ◌+◌, ◌-◌, ◌<◌, ◌≤◌, length, get_or, refl, subst, sym, ◌∙◌, arith}
-use Rattle.std.proofs.lemmas.List.Sorted.{Contains-permutation, length_permutation}
-use Rattle.std.proofs.lemmas.List.Elements.{Contains-get_or}
-use Rattle.std.specs.Prelude.{IsPermutation}
-use Rattle.vg_fib.specs.Trie.{AreFrom}
+use Rattle.std.proofs.Common.{◌≡◌, length, ◌∙◌, arith}
 use Rattle.vg_fib.proofs.NumberLemmas.{from_permutation}
 use Rattle.vg_fib.proofs.trie.by_length.Goals as goal
 

@@ -1,6 +1,6 @@
-use Rattle.std.proofs.Common.{◌≡◌, ℕ, ◌+◌, ◌-◌, ◌*◌, ◌<◌, ◌≤◌, length, refl, subst, arith}
-use Rattle.vg_fib.specs.Trie.{IsRaisedSecond, HasChildren, longer_of}
-use Rattle.vg_fib.proofs.LevelLemmas.{entry_read, fewer_children}
+use Rattle.std.proofs.Common.{◌≡◌, ◌+◌, ◌-◌, ◌<◌, length, arith}
+use Rattle.vg_fib.specs.Trie.{longer_of}
+use Rattle.vg_fib.proofs.LevelLemmas.{entry_read}
 use Rattle.vg_fib.proofs.RaiseLemmas.{leaf_raised_second, child_raised_second, counted_second}
 use Rattle.vg_fib.proofs.trie.raise_second.Goals as goal
 use Rattle.vg_fib.proofs.trie.raise_second.Goals.{in-Leaf, in-Child}

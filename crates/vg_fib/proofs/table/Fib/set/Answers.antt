@@ -1,10 +1,8 @@
-use Rattle.std.proofs.Common.{◌≡◌, ◌<◌, false, length, refl, sym, ◌∙◌, ap, arith}
+use Rattle.std.proofs.Common.{◌<◌, length, refl, sym, ◌∙◌, ap, arith}
 use Rattle.std.specs.List.{insert}
-use Rattle.std.specs.Prelude.{nat_le}
-use Rattle.std.proofs.lemmas.Bool.{lt-leb}
 use Rattle.vg_model.specs.Edit.{route_place}
 use Rattle.vg_fib.proofs.TableLemmas.{table_set}
-use Rattle.vg_fib.proofs.OrderLemmas.{place_read, order_set, pushed, stayed}
+use Rattle.vg_fib.proofs.OrderLemmas.{place_read, order_set, pushed}
 use Rattle.vg_fib.proofs.table.Fib.set.Goals as goal
 
 pub index_mut-requires : goal.index_mut-requires
@@ -46,4 +44,3 @@ returns-in-Err-clause-full c =
     let none = ap (route_place c.args.prefix) (sym c.self.view_is) ∙ ap (route_place c.args.prefix) (sym c.as_slice.ensures.value) ∙ c.in-Err.ensures.0 in
     let len = ap length c.self.view_is in
     ((λ e. (none, omega (arith, len, c.if-len-ge-MOST_ROUTES.true, c.len.ensures, c.self.inside.routes.ok))), (λ p. refl))
-

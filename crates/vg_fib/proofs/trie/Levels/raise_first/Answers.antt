@@ -1,5 +1,5 @@
-use Rattle.std.proofs.Common.{◌≡◌, ℕ, ◌+◌, ◌-◌, ◌*◌, ◌<◌, ◌≤◌, length, refl, subst, arith}
-use Rattle.vg_fib.specs.Trie.{AreRaised, HasChildren, longer_of}
+use Rattle.std.proofs.Common.{◌≡◌, ◌+◌, ◌-◌, ◌<◌, length, arith}
+use Rattle.vg_fib.specs.Trie.{longer_of}
 use Rattle.vg_fib.proofs.LevelLemmas.{entry_read, fewer_children}
 use Rattle.vg_fib.proofs.RaiseLemmas.{leaf_raised_first, child_raised_first, counted_first}
 use Rattle.vg_fib.proofs.trie.Levels.raise_first.Goals as goal

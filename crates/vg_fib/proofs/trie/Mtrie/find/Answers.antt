@@ -1,4 +1,4 @@
-use Rattle.std.proofs.Common.{◌≡◌, ◌<◌, ◌≤◌, ◌≢◌, ◌^◌, ℕ, length, sym, subst, ◌∙◌, arith, rules}
+use Rattle.std.proofs.Common.{◌≡◌, ◌≢◌, sym, subst, ◌∙◌, arith, rules}
 use Rattle.std.specs.Prelude.{Some, None}
 use Rattle.vg_model.specs.Route.{best_route}
 use Rattle.vg_fib.specs.Trie.{target_of}

@@ -1,5 +1,5 @@
-use Rattle.std.proofs.Common.{◌≡◌, ℕ, ap, length, subst, sym, ◌∙◌, arith, rules}
-use Rattle.vg_fib.specs.Trie.{BeginsWith, HasFirst}
+use Rattle.std.proofs.Common.{◌≡◌, rules}
+use Rattle.vg_fib.specs.Trie.{BeginsWith}
 use Rattle.vg_fib.proofs.NumberLemmas.{has_renewed}
 use Rattle.vg_fib.proofs.trie.Mtrie.grown.Goals as goal
 
