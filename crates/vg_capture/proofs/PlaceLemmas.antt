@@ -1,9 +1,9 @@
 -- The places of captured packets in bytes, one more at a time.
-use Rattle.std.proofs.Common.{◌≡◌, ℕ, ◌+◌, ◌-◌, ◌<◌, ◌≤◌, List, [], ◌∷◌, ◌++◌, length, take, drop, get_or, refl, sym, ap, subst, ◌∙◌, arith, length-drop, length-take}
+use Rattle.std.proofs.Common.{◌≡◌, ℕ, ◌+◌, ◌-◌, ◌<◌, ◌≤◌, List, [], ◌∷◌, ◌++◌, length, take, drop, get_or, refl, sym, ap, subst, ◌∙◌, arith, length-drop}
 use Rattle.std.specs.Prelude.{All, Some, option_map, slice_get}
 use Rattle.std.proofs.lemmas.Option.{slice_get_read}
 use Rattle.std.proofs.lemmas.List.{drop-drop, map_push, length_push, take-append-le, drop-append-le, take_all, drop_all, length-append, length-map, take-map, drop-map, get_or-map}
-use Rattle.std.proofs.lemmas.List.Elements.{All-tail, All-push, All-take, All-drop}
+use Rattle.std.proofs.lemmas.List.Elements.{All-tail, All-push}
 use Rattle.vg_capture.specs.declared.captures.Captured.{Captured}
 use Rattle.vg_capture.specs.declared.captures.Place.{Place}
 use Rattle.vg_capture.specs.Places.{captured_at, captured_in, ArePlaces}

@@ -2,9 +2,9 @@
 ghost use Rattle.std.specs.Prelude.{◌≡◌, ◌+◌, ◌<◌, ◌≤◌, ◌∷◌, ◌++◌, [], take, drop, Some, IfOk, OnOk, length, option_map, slice_get};
 ghost use Rattle.vg_capture.specs.Places.{ArePlaces, captured_at, captured_in, marks_of};
 
-use std::alloc::Global;
+use std::alloc::{AllocError, Global};
 use std::marker::Model;
-use vg_model::{Bytes, Memory};
+use vg_model::Bytes;
 
 /// A captured packet: a record of a savefile.
 #[derive(Drop)]
@@ -116,8 +116,8 @@ impl Packets {
     ///
     /// # Errors
     ///
-    /// [`Memory`] where memory runs out, or the packets have 2^32 bytes or more.
-    pub fn of(alloc: Global, packets: &[Captured]) -> Result<Packets, Memory>
+    /// [`AllocError`] where memory runs out, or the packets have 2^32 bytes or more.
+    pub fn of(alloc: Global, packets: &[Captured]) -> Result<Packets, AllocError>
         requires { length packets.now ≤ MOST_PACKETS }
         ensures { IfOk result (λ made. made ≡ packets.now) }
     {
@@ -171,7 +171,7 @@ impl Packets {
 }
 
 // Adds a packet behind the others: its bytes, and its place in them.
-fn add(bytes: &mut Vec<u8>, places: &mut Vec<Place>, packet: &Captured) -> Result<(), Memory>
+fn add(bytes: &mut Vec<u8>, places: &mut Vec<Place>, packet: &Captured) -> Result<(), AllocError>
     requires few { length places.old.items < MOST_PACKETS }
     requires places { ArePlaces bytes.old.items places.old.items }
     ensures packets { OnOk result (captured_in bytes.new.items places.new.items ≡ captured_in bytes.old.items places.old.items ++ packet.now ∷ []) }
@@ -179,15 +179,13 @@ fn add(bytes: &mut Vec<u8>, places: &mut Vec<Place>, packet: &Captured) -> Resul
 {
     let more = packet.bytes.as_slice();
     let Ok(start) = u32::try_from(bytes.len()) else {
-        return Err(Memory);
+        return Err(AllocError);
     };
     let Ok(len) = u32::try_from(more.len()) else {
-        return Err(Memory);
+        return Err(AllocError);
     };
-    if bytes.extend_from_slice(more).is_err() {
-        return Err(Memory);
-    }
-    let place = Place {
+    bytes.extend_from_slice(more)?;
+    places.push(Place {
         start,
         len,
         marks: Marks {
@@ -195,11 +193,8 @@ fn add(bytes: &mut Vec<u8>, places: &mut Vec<Place>, packet: &Captured) -> Resul
             fraction: packet.fraction,
             original: packet.original,
         },
-    };
-    match places.push(place) {
-        Ok(()) => Ok(()),
-        Err(_) => Err(Memory),
-    }
+    })?;
+    Ok(())
 }
 
 /// A capture: what a savefile holds.

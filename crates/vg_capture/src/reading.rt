@@ -104,10 +104,8 @@ fn read_records<T: ByteOrder>(alloc: Global, file: Bytes) -> Result<Packets, Cap
     requires small { length file ≤ LARGEST_FILE }
     ensures { IsUnlessMemory (records_of T.number_of (drop FILE_HEADER_LEN file)) result }
 {
-    match read_places::<T>(alloc, file.as_slice()) {
-        Ok(places) => Ok(Packets::from_places(file, places)),
-        Err(error) => Err(error),
-    }
+    let places = read_places::<T>(alloc, file.as_slice())?;
+    Ok(Packets::from_places(file, places))
 }
 
 /// Where in a file the packets of its records stand.
@@ -120,7 +118,8 @@ fn read_places<T: ByteOrder>(alloc: Global, file: &[u8]) -> Result<Vec<Place>, C
     ensures places { IfOk result (λ places. ArePlaces file.now places.items) }
 {
     let (_, records) = file.split_at(FILE_HEADER_LEN);
-    let mut places = Vec::new(alloc);
+    let most = (records.len() / RECORD_HEADER_LEN).min(MOST_PACKETS);
+    let mut places = Vec::with_capacity(alloc, most)?;
     let mut place = FILE_HEADER_LEN;
     let mut rest = records;
     while !rest.is_empty() {
@@ -142,7 +141,7 @@ fn read_places<T: ByteOrder>(alloc: Global, file: &[u8]) -> Result<Vec<Place>, C
             });
         }
         let (_, others) = body.split_at(len);
-        let captured = Place {
+        places.push(Place {
             start: (place + RECORD_HEADER_LEN) as u32,
             len: len as u32,
             marks: Marks {
@@ -150,10 +149,7 @@ fn read_places<T: ByteOrder>(alloc: Global, file: &[u8]) -> Result<Vec<Place>, C
                 fraction: u32_at::<T>(rest, 4),
                 original: u32_at::<T>(rest, 12),
             },
-        };
-        let Ok(()) = places.push(captured) else {
-            return Err(CaptureError::Memory);
-        };
+        })?;
         place += RECORD_HEADER_LEN + len;
         rest = others;
     }

@@ -1,4 +1,6 @@
-use crate::{Capture, CaptureError, Captured, Packets, Sent, read_capture, write_capture};
+use crate::{
+    Capture, CaptureError, Captured, Packets, Savefile, Sent, read_capture, write_capture,
+};
 use std::alloc::Global;
 use std::process::Abort;
 use std::test::Fail;
@@ -230,5 +232,63 @@ fn each_magic_has_its_order_and_unit(rt: HostRuntime) -> Result<(), Fail> {
         assert_eq!(rt; capture.nanos, nanos);
         assert_eq!(rt; capture.snaplen, 65_535);
     }
+    Ok(())
+}
+
+/// A packet of the second 1 with these bytes.
+fn packet(alloc: Global, original: u32, bytes: &[u8]) -> Result<Captured, Fail> {
+    Ok(Captured {
+        seconds: 1,
+        fraction: 0,
+        original,
+        bytes: Bytes::from_vec(bytes.to_vec(alloc)?),
+    })
+}
+
+#[test]
+fn a_stretch_is_packets_one_behind_the_other(rt: HostRuntime) -> Result<(), Fail> {
+    let alloc = rt.alloc();
+    let made = [
+        packet(alloc, 60, &[1, 2, 3])?,
+        packet(alloc, 61, &[])?,
+        packet(alloc, 62, &[4, 5])?,
+    ];
+    let packets = Packets::of(alloc, &made)?;
+    assert_eq!(rt; packets.len(), 3);
+    assert_eq!(rt; packets.marks(2).original, 62);
+
+    let stretch = packets.stretch(1, 2);
+    assert_eq!(rt; stretch.len(), 2);
+    assert_eq!(rt; stretch.bytes(0).len(), 0);
+    assert_eq!(rt; stretch.bytes(1), [4, 5].as_slice());
+    Ok(())
+}
+
+#[test]
+fn a_savefile_is_put_together_record_by_record(rt: HostRuntime) -> Result<(), Fail> {
+    let alloc = rt.alloc();
+    let capture = read(alloc, &BIG_ENDIAN)?;
+    assert_eq!(rt; capture.packets.len(), 1);
+    let mut file = Savefile::begin(alloc, &capture, Savefile::room(2, 1))?;
+    file.put(&capture, 0, &[5])?;
+    file.put(&capture, 0, &[])?;
+    let expected = [
+        0x4d, 0x3c, 0xb2, 0xa1, 2, 0, 4, 0, 0, 0, 0, 0, 0, 0, 0, 0, 0xff, 0xff, 0, 0, 1, 0, 0, 0,
+        1, 0, 0, 0, 0xff, 0xc9, 0x9a, 0x3b, 1, 0, 0, 0, 60, 0, 0, 0, 5, 1, 0, 0, 0, 0xff, 0xc9,
+        0x9a, 0x3b, 0, 0, 0, 0, 60, 0, 0, 0,
+    ];
+    assert_eq!(rt; file.end().as_slice(), expected.as_slice());
+    assert_eq!(rt; Savefile::room(2, 1), 57);
+    Ok(())
+}
+
+#[test]
+fn a_refusal_is_told_in_words(rt: HostRuntime) -> Result<(), Fail> {
+    let version = CaptureError::Version { major: 2, minor: 3 };
+    let text = format!(in rt.alloc(); "{version}")?;
+    assert_eq!(rt; text.as_str(), "the version is 2.3, and not 2.4");
+    let torn = CaptureError::Truncated { offset: 40 };
+    let text = format!(in rt.alloc(); "{torn}")?;
+    assert_eq!(rt; text.as_str(), "what begins at byte 40 is cut off");
     Ok(())
 }

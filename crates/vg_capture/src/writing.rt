@@ -9,7 +9,7 @@ use crate::layout::{
     NANOSECONDS_MAGIC, RECORD_HEADER_LEN,
 };
 use byteorder::{LittleEndian, WriteBytesExt};
-use std::alloc::Global;
+use std::alloc::{AllocError, Global};
 use std::io;
 use std::marker::Model;
 use vg_model::{Bytes, Memory};
@@ -41,16 +41,15 @@ impl Savefile {
     ///
     /// # Errors
     ///
-    /// [`Memory`] where memory runs out.
-    pub fn begin(alloc: Global, capture: &Capture, room: usize) -> Result<Savefile, Memory>
+    /// [`AllocError`] where memory runs out.
+    pub fn begin(alloc: Global, capture: &Capture, room: usize) -> Result<Savefile, AllocError>
         ensures { IfOk result (λ file. file ≡ file_header capture.now) }
     {
-        let Ok(mut bytes) = Vec::with_capacity(alloc, room) else {
-            return Err(Memory);
-        };
+        let mut bytes = Vec::with_capacity(alloc, room)?;
         match put_header(&mut bytes, capture) {
             Ok(()) => Ok(Savefile { bytes }),
-            Err(_) => Err(Memory),
+            // A vector refuses bytes for want of memory alone.
+            Err(_) => Err(AllocError),
         }
     }
 
@@ -59,8 +58,8 @@ impl Savefile {
     ///
     /// # Errors
     ///
-    /// [`Memory`] where memory runs out.
-    pub fn put(&mut self, capture: &Capture, number: u32, bytes: &[u8]) -> Result<(), Memory>
+    /// [`AllocError`] where memory runs out.
+    pub fn put(&mut self, capture: &Capture, number: u32, bytes: &[u8]) -> Result<(), AllocError>
         requires number { number < length capture.now.packets }
         requires len { length bytes.now < 2 ^ 32 }
         ensures { OnOk result (self.new ≡ self.old ++ sent_in capture.now.packets (number, bytes.now)) }
@@ -84,6 +83,14 @@ impl Savefile {
 /// below the number of captured packets, and each packet sent shorter than 2^32 bytes. The only
 /// error is want of memory.
 pub fn write_capture(alloc: Global, capture: &Capture, sent: &[Sent]) -> Result<Bytes, Memory>
+    requires { AreWithin (length capture.now.packets) sent.now }
+    ensures { IfOk result (λ bytes. bytes ≡ savefile capture.now (pairs sent.now)) }
+{
+    put_all(alloc, capture, sent).map_err(|_| Memory)
+}
+
+/// The savefile of the packets sent.
+fn put_all(alloc: Global, capture: &Capture, sent: &[Sent]) -> Result<Bytes, AllocError>
     requires { AreWithin (length capture.now.packets) sent.now }
     ensures { IfOk result (λ bytes. bytes ≡ savefile capture.now (pairs sent.now)) }
 {
@@ -151,14 +158,9 @@ fn head(marks: Marks, len: u32) -> [u8; RECORD_HEADER_LEN]
 }
 
 /// Appends a record: its header, and then its bytes.
-fn put_record(out: &mut Vec<u8>, head: &[u8], bytes: &[u8]) -> Result<(), Memory>
+fn put_record(out: &mut Vec<u8>, head: &[u8], bytes: &[u8]) -> Result<(), AllocError>
     ensures { OnOk result (out.new.items ≡ out.old.items ++ head.now ++ bytes.now) }
 {
-    if out.extend_from_slice(head).is_err() {
-        return Err(Memory);
-    }
-    match out.extend_from_slice(bytes) {
-        Ok(()) => Ok(()),
-        Err(_) => Err(Memory),
-    }
+    out.extend_from_slice(head)?;
+    out.extend_from_slice(bytes)
 }

@@ -1,6 +1,7 @@
 //! A run on one worker.
-ghost use Rattle.std.specs.Prelude.{◌≡◌, IfOk};
-ghost use Rattle.std.specs.List.Sorted.{IsPermutation, IsNonDecreasingBy};
+ghost use Rattle.std.specs.Prelude.{◌≡◌, ℕ, List, map, IfOk};
+ghost use Rattle.std.specs.Bool.{OnTrue};
+ghost use Rattle.std.specs.List.Sorted.{IsPermutation, IsNonDecreasing, IsNonDecreasingBy};
 ghost use Rattle.vg_plan.specs.Plan.{first_generation};
 ghost use Rattle.vg_dispatch.specs.Progress.{AreInRange};
 ghost use Rattle.vg_engine.specs.Outcomes.{IsOutcome};
@@ -14,7 +15,7 @@ use vg_capture::Capture;
 use vg_counters::{Counters, TraceLists};
 use vg_dispatch::{CoreEnd, Options, SentList};
 use vg_graph::Graph;
-use vg_model::{Fates, Memory};
+use vg_model::{Fate, Fates, Memory};
 use vg_nodes::KindSet;
 use vg_plan::Plan;
 use vg_pool::PoolLedger;
@@ -45,14 +46,59 @@ pub struct Outcome {
     pub last: Graph,
 }
 
-// The fates in the order of their numbers.
+// Whether the fates stand in the order of their numbers.
+fn are_in_order(fates: &[Fate]) -> bool
+    ensures { OnTrue result (IsNonDecreasingBy (λ fate. fate.number) fates.now) }
+{
+    let mut least = 0;
+    for fate in fates {
+        if fate.number < least {
+            return false;
+        }
+        least = fate.number;
+    }
+    true
+}
+
+// The fates in the order of their numbers, which they mostly have: then none is moved.
 fn by_number(fates: Fates) -> Fates
     ensures same { IsPermutation fates result }
     ensures rising { IsNonDecreasingBy (λ fate. fate.number) result }
 {
+    if are_in_order(fates.as_slice()) {
+        return fates;
+    }
     let mut fates = fates.into_vec();
     fates.sort_unstable_by_key(|fate| fate.number);
     Fates::from_vec(fates)
+}
+
+// Whether the packets sent stand in the order of their numbers.
+fn are_sent_in_order(sent: &SentList) -> bool
+    ensures { OnTrue result (IsNonDecreasing (map (λ (packet : ℕ × List ℕ). packet.0) sent.now)) }
+{
+    let mut least = 0;
+    for k in 0..sent.len() {
+        let (number, _) = sent.get(k);
+        if number < least {
+            return false;
+        }
+        least = number;
+    }
+    true
+}
+
+// The packets sent in the order of their numbers, which they mostly have: then none is moved.
+fn sent_by_number(sent: SentList) -> SentList
+    ensures same { IsPermutation sent result }
+    ensures rising { IsNonDecreasing (map (λ (packet : ℕ × List ℕ). packet.0) result) }
+{
+    if are_sent_in_order(&sent) {
+        return sent;
+    }
+    let mut sent = sent;
+    sent.sort();
+    sent
 }
 
 // Runs a capture on one worker, whose buffers are counted in these two ledgers.
@@ -76,11 +122,11 @@ fn run_counted<K: KindSet, T: PoolLedger, G: Ledger>(
     let (kept, buffers) = station.end()?;
     let CoreEnd {
         log,
-        mut sent,
+        sent,
         counts,
         trace,
     } = kept;
-    sent.sort();
+    let sent = sent_by_number(sent);
     let trace = of_one_worker(alloc, trace)?;
     Ok(Outcome {
         fates: by_number(log),

@@ -70,10 +70,8 @@ impl FileMap {
         let Some(bytes) = self.get(name) else {
             return Err(LoadError::Failed);
         };
-        match Vec::from_slice(self.alloc, first_bytes(bytes, limit)) {
-            Ok(copy) => Ok(Bytes::from_vec(copy)),
-            Err(_) => Err(LoadError::Memory),
-        }
+        let copy = Vec::from_slice(self.alloc, first_bytes(bytes, limit))?;
+        Ok(Bytes::from_vec(copy))
     }
 
     /// Gives a file these bytes, in place of those that it had. An error leaves all files as they

@@ -1,8 +1,12 @@
 //! Files by name.
 ghost use Rattle.std.specs.Prelude.{◌≡◌, ℕ, ◌+◌, ◌≤◌, List, Option, IfOk, OnOk, OnErr, IsErrOf};
+ghost use Rattle.vg_outside.specs.declared.folder.LoadError.TheVariants.{Memory as OutOfMemory};
 ghost use Rattle.vg_outside.specs.Files.{Files, FirstBytes, FailedLoad, HoldsBytes, SameElsewhere, Rose};
 
 use crate::sink::Failed;
+use std::alloc::AllocError;
+use std::error::Error;
+use std::fmt;
 use vg_model::Bytes;
 
 /// Why a file was not loaded.
@@ -12,6 +16,25 @@ pub enum LoadError {
     Failed,
     /// There was no memory for the file's bytes.
     Memory,
+}
+
+impl fmt::Display for LoadError {
+    fn fmt<W: fmt::Write>(&self, f: &mut fmt::Formatter<W>) -> fmt::Result {
+        f.write_str(match self {
+            LoadError::Failed => "the file could not be loaded",
+            LoadError::Memory => "memory ran out",
+        })
+    }
+}
+
+impl Error for LoadError {}
+
+impl From<AllocError> for LoadError {
+    ghost from_gives = { λ _ error. error ≡ OutOfMemory };
+
+    fn from(_error: AllocError) -> LoadError {
+        LoadError::Memory
+    }
 }
 
 /// Files by name: a run reads its input from them and saves its output among them.

@@ -4,6 +4,7 @@ ghost use Rattle.vg_outside.specs.Files.{risen};
 
 use crate::folder::{Folder, LoadError};
 use crate::sink::{Failed, Sink};
+use std::fs::OpenFile;
 use std::io::{ErrorKind, Read, Write};
 use std::rt::Files;
 use std::{fs, io};
@@ -29,11 +30,19 @@ impl<R> RealFolder<R> {
     }
 }
 
+/// For how many bytes room is made before at most so many of a file are read: for those that the file says it has, and for one
+/// more, so that the end is found without further room. What says nothing of its size, as a pipe, is given room as it is read.
+fn room_for<F: OpenFile>(file: &F, most: u64) -> usize {
+    let size = file.metadata().map_or(0, |metadata| metadata.len());
+    usize::try_from(size.min(most).saturating_add(1)).unwrap_or(usize::MAX)
+}
+
 /// The first bytes of a file, at most `limit + 1` of them. No more are read.
 fn read_first<R: Files + AllocGlobal>(rt: &R, name: &str, limit: usize) -> io::Result<Vec<u8>> {
     let most = u64::try_from(limit).unwrap_or(u64::MAX).saturating_add(1);
-    let mut bytes = Vec::new(rt.alloc());
-    fs::open(rt, name)?.take(most).read_to_end(&mut bytes)?;
+    let file = fs::open(rt, name)?;
+    let mut bytes = Vec::with_capacity(rt.alloc(), room_for(&file, most))?;
+    file.take(most).read_to_end(&mut bytes)?;
     Ok(bytes)
 }
 

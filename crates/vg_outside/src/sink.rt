@@ -2,9 +2,20 @@
 ghost use Rattle.std.specs.Prelude.{◌≡◌, ℕ, ◌≤◌, ◌<◌, ◌++◌, List, take, length, Option, option_map, IfOk, OnErr};
 ghost use Rattle.vg_outside.specs.Files.{Rose};
 
+use std::error::Error;
+use std::fmt;
+
 /// A call that failed, which was counted.
 #[derive(Clone, Copy, Debug, PartialEq, Eq)]
 pub struct Failed;
+
+impl fmt::Display for Failed {
+    fn fmt<W: fmt::Write>(&self, f: &mut fmt::Formatter<W>) -> fmt::Result {
+        f.write_str("the call failed")
+    }
+}
+
+impl Error for Failed {}
 
 /// A sink of bytes: a run prints its report to one.
 ///

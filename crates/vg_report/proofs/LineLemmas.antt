@@ -1,8 +1,9 @@
 -- Lines and words in a row.
 use Rattle.std.proofs.Common.{◌≡◌, ℕ, ◌+◌, ◌<◌, List, [], ◌∷◌, ◌++◌, length, take, get_or, refl, sym, ap, ◌∙◌, append-nil, append_assoc, add-zero, zero-add, suc, length-take-le, arith}
 use Rattle.std.proofs.lemmas.List.{take_more}
+use Rattle.std.proofs.lemmas.Fmt.{decimal_digit}
 use Rattle.std.proofs.lemmas.Grind.{flat_map-append}
-use Rattle.std.specs.Prelude.{flat_map, map, codes}
+use Rattle.std.specs.Prelude.{flat_map, map, codes, decimal}
 use Rattle.std.specs.List.{join_with_byte}
 use Rattle.vg_model.specs.declared.fates.Leg.{Leg}
 use Rattle.vg_report.specs.Text.{Line, line_text, further, numbered, first_line, count_line, head_lines, leg_text, legs_word}
@@ -22,18 +23,23 @@ pub trace_steps : (before number : List ℕ) (names : Line)
     → (((before ++ codes "trace") ++ 32 ∷ number) ++ further names) ++ 10 ∷ [] ≡ before ++ line_text (codes "trace" ∷ number ∷ names)
 trace_steps before number names = rw (join_with_byte-cons 32 number names) (simp append_assoc)
 
--- eight lists in a row
-eight : (a b c d e f g h : List ℕ) → ((((((a ++ b) ++ c) ++ d) ++ e) ++ f) ++ g) ++ h ≡ a ++ (b ++ ((c ++ ((d ++ e) ++ (f ++ g))) ++ h))
-eight a b c d e f g h = simp append_assoc
+-- seven lists in a row
+seven : (a b c d e f g : List ℕ) → ((((a ++ b) ++ c) ++ d) ++ e) ++ (f ++ g) ≡ a ++ (b ++ ((c ++ (d ++ (e ++ f))) ++ g))
+seven a b c d e f g = simp append_assoc
 
 -- the steps in which a packet's line is appended
 pub packet_steps : (before number legs : List ℕ) (congested end : Line)
-    → ((((((before ++ codes "packet") ++ 32 ∷ number) ++ 32 ∷ []) ++ legs) ++ further congested) ++ further end) ++ 10 ∷ []
+    → ((((before ++ codes "packet ") ++ number) ++ 32 ∷ legs) ++ further congested) ++ (further end ++ 10 ∷ [])
     ≡ before ++ line_text (codes "packet" ∷ number ∷ legs ∷ (congested ++ end))
 packet_steps before number legs congested end =
-    eight before (codes "packet") (32 ∷ number) (32 ∷ []) legs (further congested) (further end) (10 ∷ [])
-    ∙ ap (λ r. before ++ (codes "packet" ++ ((32 ∷ number ++ (32 ∷ legs ++ r)) ++ 10 ∷ []))) (sym (flat_map-append (λ word. 32 ∷ word) congested end))
+    seven before (codes "packet ") number (32 ∷ legs) (further congested) (further end) (10 ∷ [])
+    ∙ ap (λ r. before ++ (codes "packet " ++ ((number ++ (32 ∷ legs ++ r)) ++ 10 ∷ []))) (sym (flat_map-append (λ word. 32 ∷ word) congested end))
     ∙ ap (λ r. before ++ r) (sym (line_text-cons (codes "packet") (number ∷ legs ∷ (congested ++ end))))
+
+-- a leg whose numbers have one digit
+pub leg_text-digits : (leg : Leg) → leg.worker < 10 → leg.generation < 10 → leg_text leg ≡ (48 + leg.worker) ∷ 58 ∷ (48 + leg.generation) ∷ []
+leg_text-digits leg worker generation =
+    ap (λ r. r ++ 58 ∷ decimal leg.generation) (decimal_digit leg.worker worker) ∙ ap (λ r. (48 + leg.worker) ∷ 58 ∷ r) (decimal_digit leg.generation generation)
 
 -- the legs of a packet are the first, and each other behind a comma
 pub legs_word-cons : (leg : Leg) (legs : List Leg) → legs_word (leg ∷ legs) ≡ leg_text leg ++ flat_map (λ l. 44 ∷ leg_text l) legs

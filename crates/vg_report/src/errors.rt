@@ -1,5 +1,10 @@
 //! Why a text is no report.
 ghost use Rattle.std.specs.Prelude.{◌≡◌};
+ghost use Rattle.vg_report.specs.declared.errors.ReportCause.TheVariants.{Memory as OutOfMemory};
+
+use std::alloc::AllocError;
+use std::error::Error;
+use std::fmt;
 
 /// Why a text is no report.
 #[derive(Clone, Copy, Debug, PartialEq, Eq)]
@@ -26,3 +31,38 @@ pub struct ReportError {
     pub line: u32,
     pub cause: ReportCause,
 }
+
+impl fmt::Display for ReportCause {
+    fn fmt<W: fmt::Write>(&self, f: &mut fmt::Formatter<W>) -> fmt::Result {
+        f.write_str(match self {
+            ReportCause::Form => "no such line may stand here",
+            ReportCause::Number => "a number is misspelled or out of its range",
+            ReportCause::Unknown => "a name or an error isn't known, or a name stands twice",
+            ReportCause::Order => "a running number or an error isn't the next",
+            ReportCause::Memory => "memory ran out",
+        })
+    }
+}
+
+impl Error for ReportCause {}
+
+impl From<AllocError> for ReportCause {
+    ghost from_gives = { λ _ cause. cause ≡ OutOfMemory };
+
+    fn from(_error: AllocError) -> ReportCause {
+        ReportCause::Memory
+    }
+}
+
+impl fmt::Display for ReportError {
+    fn fmt<W: fmt::Write>(&self, f: &mut fmt::Formatter<W>) -> fmt::Result {
+        let line = self.line;
+        let cause = self.cause;
+        match cause {
+            ReportCause::Memory => write!(f, "{cause}"),
+            _ => write!(f, "line {line}: {cause}"),
+        }
+    }
+}
+
+impl Error for ReportError {}

@@ -1,11 +1,10 @@
-//! The lists of a report. Each is made of a vector and gives it back, and neither copies nor takes memory.
-ghost use Rattle.std.specs.Prelude.{◌≡◌, ◌<◌, ◌++◌, [], ◌∷◌, MatchResult, Some, length, slice_get};
+//! The lists of a report. Each is made of a vector, and all but the packets give it back; neither copies nor takes memory.
+ghost use Rattle.std.specs.Prelude.{◌≡◌, ◌<◌, ◌++◌, [], ◌∷◌, OnOk, Some, length, slice_get};
 ghost use Rattle.vg_report.specs.Named.{lines_of, AreNamed, IsNamed, end_by};
 ghost use Rattle.vg_report.specs.Seen.{line_seen, end_seen};
 
-use crate::errors::ReportCause;
 use crate::reports::{EndRef, LineRef, PacketEnd, PacketLine};
-use std::alloc::Global;
+use std::alloc::{AllocError, Global};
 use std::marker::Model;
 use vg_model::{DropError, End, Fates, Name};
 
@@ -103,14 +102,12 @@ impl NameCounts {
         self.0
     }
 
-    /// Adds an entry behind the others; the error is want of memory.
-    pub(crate) fn push(&mut self, entry: (Name, u64)) -> Result<(), ReportCause>
-        ensures { MatchResult result (λ _. self.new ≡ self.old ++ entry ∷ []) (λ cause. cause ≡ ReportCause.Memory) }
+    /// Adds an entry behind the others.
+    pub(crate) fn push(&mut self, entry: (Name, u64)) -> Result<(), AllocError>
+        ensures { OnOk result (self.new ≡ self.old ++ entry ∷ []) }
     {
-        match self.0.push(entry) {
-            Ok(()) => Ok(()),
-            Err(_) => Err(ReportCause::Memory),
-        }
+        self.0.push(entry)?;
+        Ok(())
     }
 }
 
@@ -136,14 +133,12 @@ impl ErrorCounts {
         self.0
     }
 
-    /// Adds an entry behind the others; the error is want of memory.
-    pub(crate) fn push(&mut self, entry: (Name, DropError, u64)) -> Result<(), ReportCause>
-        ensures { MatchResult result (λ _. self.new ≡ self.old ++ entry ∷ []) (λ cause. cause ≡ ReportCause.Memory) }
+    /// Adds an entry behind the others.
+    pub(crate) fn push(&mut self, entry: (Name, DropError, u64)) -> Result<(), AllocError>
+        ensures { OnOk result (self.new ≡ self.old ++ entry ∷ []) }
     {
-        match self.0.push(entry) {
-            Ok(()) => Ok(()),
-            Err(_) => Err(ReportCause::Memory),
-        }
+        self.0.push(entry)?;
+        Ok(())
     }
 }
 
@@ -152,11 +147,19 @@ impl PacketLines {
     pub fn new(alloc: Global) -> PacketLines
         ensures { result ≡ [] }
     {
+        PacketLines::from_vec(Vec::new(alloc))
+    }
+
+    /// The list of these packets.
+    pub fn from_vec(packets: Vec<PacketLine>) -> PacketLines
+        ensures { result ≡ packets.items }
+    {
+        let alloc = *packets.allocator();
         PacketLines {
             fates: Fates::from_vec(Vec::new(alloc)),
             interfaces: Vec::new(alloc),
             nodes: Vec::new(alloc),
-            added: Vec::new(alloc),
+            added: packets,
         }
     }
 
@@ -207,14 +210,16 @@ impl PacketLines {
         }
     }
 
-    /// Adds a packet behind the others; the error is want of memory.
-    pub fn push(&mut self, packet: PacketLine) -> Result<(), ReportCause>
-        ensures { MatchResult result (λ _. self.new ≡ self.old ++ packet ∷ []) (λ cause. cause ≡ ReportCause.Memory) }
+    /// Adds a packet behind the others.
+    ///
+    /// # Errors
+    ///
+    /// [`AllocError`] where memory runs out.
+    pub fn push(&mut self, packet: PacketLine) -> Result<(), AllocError>
+        ensures { OnOk result (self.new ≡ self.old ++ packet ∷ []) }
     {
-        match self.added.push(packet) {
-            Ok(()) => Ok(()),
-            Err(_) => Err(ReportCause::Memory),
-        }
+        self.added.push(packet)?;
+        Ok(())
     }
 }
 
@@ -269,14 +274,12 @@ impl Names {
         self.0
     }
 
-    /// Adds a name behind the others; the error is want of memory.
-    pub(crate) fn push(&mut self, name: Name) -> Result<(), ReportCause>
-        ensures { MatchResult result (λ _. self.new ≡ self.old ++ name ∷ []) (λ cause. cause ≡ ReportCause.Memory) }
+    /// Adds a name behind the others.
+    pub(crate) fn push(&mut self, name: Name) -> Result<(), AllocError>
+        ensures { OnOk result (self.new ≡ self.old ++ name ∷ []) }
     {
-        match self.0.push(name) {
-            Ok(()) => Ok(()),
-            Err(_) => Err(ReportCause::Memory),
-        }
+        self.0.push(name)?;
+        Ok(())
     }
 }
 
@@ -302,13 +305,11 @@ impl TraceLines {
         self.0
     }
 
-    /// Adds a trace behind the others; the error is want of memory.
-    pub(crate) fn push(&mut self, trace: Names) -> Result<(), ReportCause>
-        ensures { MatchResult result (λ _. self.new ≡ self.old ++ trace ∷ []) (λ cause. cause ≡ ReportCause.Memory) }
+    /// Adds a trace behind the others.
+    pub(crate) fn push(&mut self, trace: Names) -> Result<(), AllocError>
+        ensures { OnOk result (self.new ≡ self.old ++ trace ∷ []) }
     {
-        match self.0.push(trace) {
-            Ok(()) => Ok(()),
-            Err(_) => Err(ReportCause::Memory),
-        }
+        self.0.push(trace)?;
+        Ok(())
     }
 }

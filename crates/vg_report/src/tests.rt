@@ -5,7 +5,7 @@ ghost use Rattle.vg_report.specs.Examples.{two_of_three_sent, every_kind_of_line
 use crate::laws::{read_is_lawful, texts_differ, written_is_read_back};
 use crate::{
     EndRef, ErrorCounts, NameCounts, Names, PacketEnd, PacketLine, PacketLines, Report,
-    ReportCause, TraceLines, read_report, write_report,
+    ReportCause, ReportError, TraceLines, read_report, write_report,
 };
 use std::alloc::{AllocError, Global};
 use std::process::Abort;
@@ -52,20 +52,6 @@ fn legs(way: &[Leg]) -> Legs
     legs
 }
 
-// These packets as a list.
-fn listed(alloc: Global, packets: Vec<PacketLine>) -> Result<PacketLines, AllocError>
-    ensures { IfOk result (λ lines. lines ≡ packets.items) }
-{
-    let mut lines = PacketLines::new(alloc);
-    for packet in packets {
-        match lines.push(packet) {
-            Ok(()) => {}
-            Err(_) => return Err(AllocError),
-        }
-    }
-    Ok(lines)
-}
-
 // Two packets that are transmitted, and one that isn't IPv4.
 fn three_packets(alloc: Global, rt: &impl Abort) -> Result<PacketLines, AllocError>
     ensures { IfOk result (λ lines. lines ≡ two_of_three_sent.packets) }
@@ -98,7 +84,7 @@ fn three_packets(alloc: Global, rt: &impl Abort) -> Result<PacketLines, AllocErr
             },
         },
     ]?;
-    listed(alloc, packets)
+    Ok(PacketLines::from_vec(packets))
 }
 
 // One worker, three packets: two are transmitted, and one isn't IPv4.
@@ -195,7 +181,7 @@ fn every_kind(alloc: Global, rt: &impl Abort) -> Result<Report, AllocError>
             },
         },
     ]?;
-    let packets = listed(alloc, packets)?;
+    let packets = PacketLines::from_vec(packets);
     let short = vec![in alloc; name(rt, b"pg-input"), name(rt, b"hand")]?;
     let long = vec![in alloc;
         name(rt, b"pg-input"),
@@ -361,4 +347,24 @@ fn the_laws_hold() {
     written_is_read_back();
     read_is_lawful();
     texts_differ();
+}
+
+#[test]
+fn a_refusal_is_told_in_words(rt: HostRuntime) -> Result<(), Fail> {
+    let order = ReportError {
+        line: 7,
+        cause: ReportCause::Order,
+    };
+    let text = format!(in rt.alloc(); "{order}")?;
+    assert_eq!(rt;
+        text.as_str(),
+        "line 7: a running number or an error isn't the next"
+    );
+    let memory = ReportError {
+        line: 0,
+        cause: ReportCause::Memory,
+    };
+    let text = format!(in rt.alloc(); "{memory}")?;
+    assert_eq!(rt; text.as_str(), "memory ran out");
+    Ok(())
 }

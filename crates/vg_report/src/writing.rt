@@ -12,7 +12,7 @@ use vg_model::{Bytes, DropError, Leg, Memory, Name};
 
 // How many bytes the line of a packet mostly has at most, and how many the lines that aren't of packets. A longer text makes the
 // buffer grow.
-const ROOM_OF_A_LINE: usize = 40;
+const ROOM_OF_A_LINE: usize = 64;
 
 const ROOM_OF_THE_OTHERS: usize = 16_384;
 
@@ -106,25 +106,31 @@ fn put_error_line(
     end_line(out)
 }
 
-fn put_leg(out: &mut Vec<u8>, leg: Leg) -> Result<(), AllocError>
-    ensures { OnOk result (out.new.items ≡ out.old.items ++ leg_text leg) }
+// Appends a leg behind a mark: the space that parts words, or the comma that parts legs.
+fn put_leg(out: &mut Vec<u8>, mark: u8, leg: Leg) -> Result<(), AllocError>
+    ensures { OnOk result (out.new.items ≡ out.old.items ++ mark ∷ leg_text leg) }
 {
+    if leg.worker < 10 && leg.generation < 10 {
+        let worker = b'0' + leg.worker;
+        let generation = b'0' + leg.generation as u8;
+        return put(out, &[mark, worker, b':', generation]);
+    }
+    put(out, &[mark])?;
     put_decimal(out, u64::from(leg.worker))?;
     put(out, b":")?;
     put_decimal(out, u64::from(leg.generation))
 }
 
-// Appends the legs of a packet as one word.
+// Appends the legs of a packet as a further word.
 fn put_legs(out: &mut Vec<u8>, legs: &[Leg]) -> Result<(), AllocError>
-    ensures { OnOk result (out.new.items ≡ out.old.items ++ legs_word legs.now) }
+    ensures { OnOk result (out.new.items ≡ out.old.items ++ 32 ∷ legs_word legs.now) }
 {
     let Some((first, others)) = legs.split_first() else {
-        return Ok(());
+        return put(out, b" ");
     };
-    put_leg(out, *first)?;
+    put_leg(out, b' ', *first)?;
     for leg in others {
-        put(out, b",")?;
-        put_leg(out, *leg)?;
+        put_leg(out, b',', *leg)?;
     }
     Ok(())
 }
@@ -140,18 +146,21 @@ fn put_congested(out: &mut Vec<u8>, congested: Option<u64>) -> Result<(), AllocE
     Ok(())
 }
 
+// Appends how a packet ended, and ends the line.
 fn put_end(out: &mut Vec<u8>, end: &EndRef<'_>) -> Result<(), AllocError>
-    ensures { OnOk result (out.new.items ≡ out.old.items ++ further (end_words (end_seen end.now))) }
+    ensures { OnOk result (out.new.items ≡ out.old.items ++ (further (end_words (end_seen end.now)) ++ 10 ∷ [])) }
 {
     match end {
         EndRef::Tx { interface } => {
-            put_word(out, b"tx")?;
-            put_word(out, interface.bytes())
+            put(out, b" tx ")?;
+            put(out, interface.bytes())?;
+            end_line(out)
         }
         EndRef::Dropped { node, error } => {
-            put_word(out, b"drop")?;
-            put_word(out, node.bytes())?;
-            put_word(out, error.word().as_bytes())
+            put(out, b" drop ")?;
+            put(out, node.bytes())?;
+            put_word(out, error.word().as_bytes())?;
+            end_line(out)
         }
     }
 }
@@ -159,13 +168,11 @@ fn put_end(out: &mut Vec<u8>, end: &EndRef<'_>) -> Result<(), AllocError>
 fn put_packet_line(out: &mut Vec<u8>, number: usize, packet: &LineRef<'_>) -> Result<(), AllocError>
     ensures { OnOk result (out.new.items ≡ out.old.items ++ line_text (packet_line number (line_seen packet.now))) }
 {
-    put(out, b"packet")?;
-    put_number(out, number as u64)?;
-    put(out, b" ")?;
+    put(out, b"packet ")?;
+    put_decimal(out, number as u64)?;
     put_legs(out, packet.legs.as_slice())?;
     put_congested(out, packet.congested)?;
-    put_end(out, &packet.end)?;
-    end_line(out)
+    put_end(out, &packet.end)
 }
 
 // Appends the names as further words.
@@ -260,16 +267,19 @@ pub fn write_report(alloc: Global, report: &Report) -> Result<Bytes, Memory>
     requires { IsLawful report.now }
     ensures { IfOk result (λ bytes. bytes ≡ text report.now) }
 {
+    written(alloc, report).map_err(|_| Memory)
+}
+
+// The text, in one vector that has room for it from the start.
+fn written(alloc: Global, report: &Report) -> Result<Bytes, AllocError>
+    ensures { IfOk result (λ bytes. bytes ≡ text report.now) }
+{
     let room = report
         .packets
         .len()
         .saturating_mul(ROOM_OF_A_LINE)
         .saturating_add(ROOM_OF_THE_OTHERS);
-    let Ok(mut out) = Vec::with_capacity(alloc, room) else {
-        return Err(Memory);
-    };
-    match put_report(&mut out, report) {
-        Ok(()) => Ok(Bytes::from_vec(out)),
-        Err(_) => Err(Memory),
-    }
+    let mut out = Vec::with_capacity(alloc, room)?;
+    put_report(&mut out, report)?;
+    Ok(Bytes::from_vec(out))
 }

@@ -12,7 +12,7 @@ use crate::loading::load_files;
 use crate::reading::{Input, read_files};
 use crate::refusals::{Refusal, Stop};
 use crate::reporting::report;
-use std::alloc::Global;
+use std::alloc::{AllocError, Global};
 use vg_capture::{Capture, Savefile};
 use vg_dispatch::SentList;
 use vg_engine::{Options, run_one};
@@ -70,7 +70,7 @@ fn savefile_len(sent: &SentList) -> usize {
 }
 
 /// The savefile of the packets that were transmitted.
-fn savefile_of(alloc: Global, capture: &Capture, sent: &SentList) -> Result<Bytes, Memory>
+fn savefile_of(alloc: Global, capture: &Capture, sent: &SentList) -> Result<Bytes, AllocError>
     requires { All (λ (packet : ℕ × List ℕ). (packet.0 < length capture.now.packets) × (length packet.1 < 2 ^ 32)) sent.now }
     ensures { IfOk result (λ bytes. bytes ≡ savefile capture.now sent.now) }
 {
@@ -100,7 +100,9 @@ fn forward(alloc: Global, input: &Input, options: &Options) -> Result<Texts, Mem
         },
         &Ip4Kinds,
     )?;
-    let tx = savefile_of(alloc, capture, &outcome.sent)?;
+    let Ok(tx) = savefile_of(alloc, capture, &outcome.sent) else {
+        return Err(Memory);
+    };
     let Ok(report) = report(alloc, options, generations, outcome) else {
         return Err(Memory);
     };

@@ -5,7 +5,7 @@ use Rattle.vg_capture.proofs.RecordLemmas.{refused_short, refused_long, refused_
 use Rattle.vg_capture.proofs.reading.read_places.Goals as goal
 
 pub loop-rest-init : goal.loop-rest-init
-loop-rest-init g c = nothing_read g.T.ByteOrder.number_of c.args.file.now c.split_at.result.1.now c.new-places.result.items c.split_at.ensures.back c.new-places.ensures.items
+loop-rest-init g c = nothing_read g.T.ByteOrder.number_of c.args.file.now c.split_at.result.1.now c.in_ok-places.places.items c.split_at.ensures.back c.in_ok-places.ensures.items
 
 pub returns-then-rest-lt-RECORD_HEADER_LEN-clause-read : goal.returns-then-rest-lt-RECORD_HEADER_LEN-clause-read
 returns-then-rest-lt-RECORD_HEADER_LEN-clause-read g c =
@@ -28,4 +28,4 @@ loop-rest-preserved g c =
     one_read g.T.ByteOrder.number_of c.args.file.now c.loop-rest.place _ c.loop-rest.rest.now c.loop-rest.places.items c.u32_at-len.result
     c.split_at-in-loop-rest.result.1.now c.split_at-in-loop-rest-2.result.1.now _ c.push.new.self.items (omega arith) c.requires.header c.loop-rest.invariant room (search rules)
     c.u32_at-len.ensures c.if-len-gt-LONGEST_RECORD.false c.split_at-in-loop-rest.ensures.back c.if-body-len.false c.split_at-in-loop-rest-2.ensures.back
-    refl refl c.u32_at.ensures c.u32_at-in-loop-rest.ensures c.u32_at-in-loop-rest-2.ensures c.in-Ok.ensures.items
+    refl refl c.u32_at.ensures c.u32_at-in-loop-rest.ensures c.u32_at-in-loop-rest-2.ensures c.in_ok-push.ensures.items

@@ -10,5 +10,5 @@ returns g c =
     let ran = c.in_ok-last.ensures in
     outcome_is g.K.KindSet.meaning c.args.input.now.plan.now c.args.input.now.capture.now c.args.input.now.options.now c.run.new.self.core _ ran.plan ran.few ran.at
     (subst (λ log. IsPermutation log c.by_number.result) kept.log c.by_number.ensures.same) c.by_number.ensures.rising
-    (subst (λ (sent : List (ℕ × List ℕ)). IsPermutation sent c.sort.new.self) kept.sent c.sort.ensures.same) c.sort.ensures.rising
+    (subst (λ (sent : List (ℕ × List ℕ)). IsPermutation sent c.sent_by_number-sent.result) kept.sent c.sent_by_number-sent.ensures.same) c.sent_by_number-sent.ensures.rising
     kept.counts (subst (λ (notes : Notes). IsMerged (notes ∷ []) c.in_ok-trace.trace) kept.trace c.in_ok-trace.ensures) (kept.buffers ∙ c.requires.total) ran.last

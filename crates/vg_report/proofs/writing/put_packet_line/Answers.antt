@@ -7,15 +7,13 @@ use Rattle.vg_report.proofs.writing.put_packet_line.Goals as goal
 
 pub returns : goal.returns
 returns c =
-    on_ok_weaker c.end_line.result (λ e. cc (
+    on_ok_weaker c.put_end.result (λ e. cc (
       e,
       c.in_ok-put.ensures,
-      c.in_ok-put_number.ensures,
-      c.in_ok-put-2.ensures,
+      c.in_ok-put_decimal.ensures,
       c.in_ok-put_legs.ensures,
       c.as_slice.ensures.legs,
       c.in_ok-put_congested.ensures,
-      c.in_ok-put_end.ensures,
       packet_steps c.args.out.now.items (decimal c.args.number) (legs_word c.args.packet.now.legs.now) (congested_words c.args.packet.now.congested) (end_words (end_seen c.args.packet.now.end)),
     ))
-    c.end_line.ensures
+    c.put_end.ensures

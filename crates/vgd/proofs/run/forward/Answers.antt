@@ -55,13 +55,13 @@ write_report-requires c =
     let capture = c.args.input.now.capture in
     let options = c.args.options.now in
     let is : IsOutcome ip4_visit plan.graphs (first_generation plan.script capture) capture options c.in_ok-outcome.outcome = c.in_ok-outcome.ensures in
-    let made : c.in-Ok.report ≡ reported options (length plan.graphs) c.in_ok-outcome.outcome =
-    c.in-Ok.ensures.report ∙ ap (λ n. reported options n c.in_ok-outcome.outcome) c.generations-generations.ensures.graphs in
-    report_lawful (some_run options) plan.graphs (length (frames_of capture)) is.js c.in-Ok.report
+    let made : c.in-Ok-report.report ≡ reported options (length plan.graphs) c.in_ok-outcome.outcome =
+    c.in-Ok-report.ensures.report ∙ ap (λ n. reported options n c.in_ok-outcome.outcome) c.generations-generations.ensures.graphs in
+    report_lawful (some_run options) plan.graphs (length (frames_of capture)) is.js c.in-Ok-report.report
     (made ∙ reported_is plan options capture c.in_ok-outcome.outcome is (some_run options) refl)
     (reportable plan options capture c.in_ok-outcome.outcome is (some_run options) refl c.requires.options c.generations-generations.ensures.plan
     (sym c.generations-generations.ensures.graphs ∙ c.generations-generations.ensures.events) c.know_few.ensures)
-    c.in-Ok.ensures.interfaces c.in-Ok.ensures.nodes
+    c.in-Ok-report.ensures.interfaces c.in-Ok-report.ensures.nodes
 
 pub returns : goal.returns
 returns c =
@@ -69,12 +69,12 @@ returns c =
     let capture = c.args.input.now.capture in
     let options = c.args.options.now in
     let is : IsOutcome ip4_visit plan.graphs (first_generation plan.script capture) capture options c.in_ok-outcome.outcome = c.in_ok-outcome.ensures in
-    let made : c.in-Ok.report ≡ reported options (length plan.graphs) c.in_ok-outcome.outcome =
-    c.in-Ok.ensures.report ∙ ap (λ n. reported options n c.in_ok-outcome.outcome) c.generations-generations.ensures.graphs in
-    let saved : c.in_ok-tx.tx ≡ savefile capture c.in_ok-outcome.outcome.sent =
-    c.in_ok-tx.ensures in
+    let made : c.in-Ok-report.report ≡ reported options (length plan.graphs) c.in_ok-outcome.outcome =
+    c.in-Ok-report.ensures.report ∙ ap (λ n. reported options n c.in_ok-outcome.outcome) c.generations-generations.ensures.graphs in
+    let saved : c.in-Ok.tx ≡ savefile capture c.in_ok-outcome.outcome.sent =
+    c.in-Ok.ensures in
     record {
-      report = c.in-Ok.report;
+      report = c.in-Ok-report.report;
       is_text = c.in_ok-report.ensures;
-      output = λ run same. output_is plan options capture c.in_ok-outcome.outcome is c.in-Ok.report c.in_ok-tx.tx run same c.requires.worker made saved;
+      output = λ run same. output_is plan options capture c.in_ok-outcome.outcome is c.in-Ok-report.report c.in-Ok.tx run same c.requires.worker made saved;
     }
