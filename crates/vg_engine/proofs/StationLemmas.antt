@@ -3,7 +3,8 @@ use Rattle.std.proofs.Common.{◌≡◌, ℕ, ◌+◌, ◌-◌, ◌<◌, ◌≤�
 use Rattle.std.specs.Prelude.{Bool, true, false, Some, slice_get, min, nat_lt, if◌then◌else◌}
 use Rattle.vg_pool.specs.Moves.{taken_of, most_taken, most_cached}
 use Rattle.vg_model.specs.Graph.{Graph}
-use Rattle.vg_model.specs.PoolBook.{PoolBook, CacheBook}
+use Rattle.vg_model.specs.PoolBook.{CacheBook}
+use Rattle.vg_pool.specs.Settlement.{PoolState}
 use Rattle.vg_model.specs.Valid.{IsKindSet}
 use Rattle.vg_model.specs.Visit.{Visit}
 use Rattle.vg_capture.specs.declared.captures.Capture.{Capture}
@@ -73,7 +74,7 @@ pub limit_within : (plan : Planned) (capture : Capture) (generation limit : ℕ)
 limit_within plan capture generation limit is = let window = limit_is_window plan.script capture generation in let inside = window.within in omega (arith, inside, is)
 
 -- buffers that go from the pool into the cache stay among those that are back
-pub back_after_take : (options : Options) (mark count n : ℕ) (pool after : PoolBook) (cache filled : CacheBook) → AreBack options mark pool cache → count ≡ taken_of n pool cache
+pub back_after_take : (options : Options) (mark count n : ℕ) (pool after : PoolState) (cache filled : CacheBook) → AreBack options mark pool cache → count ≡ taken_of n pool cache
     → after ≡ record pool { len = pool.len - count; taken = pool.taken + count } → filled ≡ record cache { len = cache.len + count; taken = cache.taken + count }
     → AreBack options mark after filled
 back_after_take options mark count n pool after cache filled back is pool_is cache_is =
@@ -85,7 +86,7 @@ back_after_take options mark count n pool after cache filled back is pool_is cac
     subst (λ p. AreBack options mark p filled) (sym pool_is) (subst (λ c. AreBack options mark (record pool { len = pool.len - count; taken = pool.taken + count }) c) (sym cache_is)
     (record { taken = omega (arith, one); buffers = omega (arith, two, few, is); freed = three; few = four }))
   where
-    taken_few : (n : ℕ) (pool : PoolBook) (cache : CacheBook) → taken_of n pool cache ≤ pool.len
+    taken_few : (n : ℕ) (pool : PoolState) (cache : CacheBook) → taken_of n pool cache ≤ pool.len
     taken_few n pool cache = here (nat_lt pool.taken most_taken)
       where
         here : (b : Bool) → (if b then min n (min pool.len (most_cached - cache.len)) else 0) ≤ pool.len
@@ -93,7 +94,7 @@ back_after_take options mark count n pool after cache filled back is pool_is cac
         here false = omega arith
 
 -- a round gives back what it takes
-pub back_after_round : (options : Options) (mark count next : ℕ) (pool : PoolBook) (cache after : CacheBook) → AreBack options mark pool cache
+pub back_after_round : (options : Options) (mark count next : ℕ) (pool : PoolState) (cache after : CacheBook) → AreBack options mark pool cache
     → after ≡ record cache { allocated = cache.allocated + count; freed = cache.freed + count } → next ≡ mark + count → AreBack options next pool after
 back_after_round options mark count next pool cache after back is more =
     let three = back.freed in

@@ -1,7 +1,8 @@
 -- A worker and its buffers between two rounds.
 use Rattle.std.specs.Prelude.{◌≡◌, ℕ, ◌+◌, ◌<◌, ◌≤◌, length, min}
 use Rattle.vg_model.specs.Edit.{most_nodes, most_interfaces}
-use Rattle.vg_model.specs.PoolBook.{PoolBook, CacheBook}
+use Rattle.vg_model.specs.PoolBook.{CacheBook}
+use Rattle.vg_pool.specs.Settlement.{PoolState}
 use Rattle.vg_model.specs.Visit.{Visit}
 use Rattle.vg_capture.specs.declared.captures.Capture.{Capture}
 use Rattle.vg_plan.specs.Plan.{Planned, first_generation}
@@ -23,7 +24,7 @@ pub record IsAt (visit : Visit) (plan : Planned) (capture : Capture) (options : 
   pub traced : length p.trace ≡ min options.trace (length capture.packets)
 
 -- all buffers are in the pool or in the cache, and no more were ever given out than packets were drawn
-pub record AreBack (options : Options) (mark : ℕ) (pool : PoolBook) (cache : CacheBook) : Type 0 where
+pub record AreBack (options : Options) (mark : ℕ) (pool : PoolState) (cache : CacheBook) : Type 0 where
   pub taken : pool.taken ≡ cache.len
   pub buffers : pool.len + cache.len ≡ options.buffers
   pub freed : cache.freed ≡ cache.allocated

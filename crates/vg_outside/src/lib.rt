@@ -1,13 +1,14 @@
-//! The world outside: a folder of files and a sink of bytes.
+//! The world outside: a folder of files, a sink of bytes, and the gate that workers pass.
 //!
 //! `Folder` and `Sink` are what a run reads and writes through. `MemoryFolder` and `MemorySink` fail
 //! where they are told to, `SureFolder` and `SureSink` at want of memory alone, and `RealFolder` and
-//! `RealSink` stand for the files of the system and its standard output.
+//! `RealSink` stand for the files of the system and its standard output. `OpenGate` lets all workers in.
 #![tactic(auto)]
 
 pub mod calls;
 pub mod file_map;
 pub mod folder;
+pub mod gates;
 pub mod memory;
 pub mod real;
 pub mod sink;
@@ -18,6 +19,7 @@ mod tests;
 pub use calls::Calls;
 pub use file_map::FileMap;
 pub use folder::{Folder, LoadError};
+pub use gates::{Gate, OpenGate};
 pub use memory::{MemoryFolder, MemorySink};
 pub use real::{RealFolder, RealSink};
 pub use sink::{Failed, Sink};

@@ -4,11 +4,12 @@ use Rattle.std.specs.Prelude.{sum_by}
 use Rattle.std.proofs.lemmas.List.Sums.{sum_by_push}
 use Rattle.std.proofs.lemmas.List.{length-append}
 use Rattle.std.proofs.lemmas.Bool.{cases_lt}
-use Rattle.vg_model.specs.PoolBook.{PoolBook, CacheBook, IsCacheBook}
+use Rattle.vg_model.specs.PoolBook.{CacheBook, IsCacheBook}
 use Rattle.vg_pool.specs.Moves.{given_of}
+use Rattle.vg_pool.specs.Settlement.{PoolState, most_told}
 
 -- what a pool is once these caches gave their buffers back, and what their shares are together
-pub record IsSettled (total : ℕ) (before after : PoolBook) (caches : List CacheBook) (taken_parts taken given_parts given : ℕ) : Type 0 where
+pub record IsSettled (total : ℕ) (before after : PoolState) (caches : List CacheBook) (taken_parts taken given_parts given allocated : ℕ) : Type 0 where
   -- each cache has a part
   pub one_taken_each : taken_parts ≡ length caches
   pub one_given_each : given_parts ≡ length caches
@@ -19,6 +20,8 @@ pub record IsSettled (total : ℕ) (before after : PoolBook) (caches : List Cach
   pub book_given : after.given + before.len ≡ before.given + after.len
   pub kept : sum_by (λ c. c.len) caches + sum_by (λ c. c.given) caches + sum_by (λ c. c.allocated) caches
       ≡ sum_by (λ c. c.taken) caches + sum_by (λ c. c.freed) caches
+  -- what the caches gave out is told, as far as a number of 64 bits can
+  pub told : allocated ≡ min (sum_by (λ c. c.allocated) caches) most_told
   -- everything went back, or the pool is full
   pub fits : after.len ≤ total
   pub moved : after.len ≤ before.len + sum_by (λ c. c.len) caches
@@ -32,11 +35,11 @@ all_or_full total len before sum more fits (inr all) moved =
     elim (cases_lt (total - len) more) [ inl many ↦ inl (omega arith) | inr few ↦ inr (omega arith) ]
 
 -- one more cache gives back what it has, or what there is room for
-pub settle_one : (total : ℕ) (before between after : PoolBook) (caches : List CacheBook) (cache : CacheBook) (moved taken_parts taken given_parts given : ℕ)
-    → IsSettled total before between caches taken_parts taken given_parts given → IsCacheBook cache → moved ≡ given_of total cache.len between cache
+pub settle_one : (total : ℕ) (before between after : PoolState) (caches : List CacheBook) (cache : CacheBook) (moved taken_parts taken given_parts given allocated more : ℕ)
+    → IsSettled total before between caches taken_parts taken given_parts given allocated → IsCacheBook cache → more ≡ min (allocated + cache.allocated) most_told → moved ≡ given_of total cache.len between cache
     → after ≡ record between { len = between.len + moved; given = between.given + moved }
-    → IsSettled total before after (caches ++ cache ∷ []) (taken_parts + 1) (taken + cache.taken) (given_parts + 1) (given + (cache.given + moved))
-settle_one total before between after caches cache moved taken_parts taken given_parts given s kept count pool =
+    → IsSettled total before after (caches ++ cache ∷ []) (taken_parts + 1) (taken + cache.taken) (given_parts + 1) (given + (cache.given + moved)) more
+settle_one total before between after caches cache moved taken_parts taken given_parts given allocated more s kept told count pool =
     let len = ap (λ p. p.len) pool in
     let book = ap (λ p. p.given) pool in
     let lens = sum_by_push (λ c. c.len) caches cache in
@@ -53,6 +56,7 @@ settle_one total before between after caches cache moved taken_parts taken given
       same_taken = ap (λ p. p.taken) pool ∙ s.same_taken;
       book_given = omega (arith, book, len, s.book_given);
       kept = omega (arith, lens, takens, givens, allocateds, freeds, s.kept, kept);
+      told = omega (arith, allocateds, s.told, told);
       fits = omega (arith, len, count, s.fits);
       moved = omega (arith, len, lens, count, s.moved);
       full = rw (len, count, lens) (all_or_full total between.len before.len (sum_by (λ c. c.len) caches) cache.len s.fits s.full s.moved);

@@ -1,2 +1,3 @@
 pub mod Contents
+pub mod Settlement
 pub mod Moves

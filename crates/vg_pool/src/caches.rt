@@ -90,6 +90,13 @@ impl<T: Ledger, G: Ledger> Cache<T, G> {
         self.freed += 1;
     }
 
+    // How many buffers `alloc` gave.
+    pub(crate) fn allocated(&self) -> u64
+        ensures { result ≡ self.now.allocated }
+    {
+        self.allocated
+    }
+
     // Its shares of the two ledgers. Buffers that it still has are lost.
     pub(crate) fn into_shares(self) -> (Share<T>, Share<G>)
         ensures taken { (result.0.parts ≡ 1) × (result.0.amount ≡ self.taken) }

@@ -16,11 +16,15 @@
 pub mod books;
 pub mod buffers;
 pub mod caches;
+pub mod locked;
 pub mod pools;
+pub mod settled;
 #[cfg(test)]
 mod tests;
 
 pub use books::PoolLedger;
 pub use buffers::{Buffer, LONGEST_PACKET};
 pub use caches::{Cache, MOST_CACHED};
-pub use pools::{MOST_TAKEN, Pool};
+pub use locked::LockedPool;
+pub use pools::{LOT, MOST_KEPT, MOST_TAKEN, Pool};
+pub use settled::Settled;

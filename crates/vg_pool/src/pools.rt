@@ -1,11 +1,13 @@
 //! The pool.
-ghost use Rattle.std.specs.Prelude.{◌≡◌, ◌+◌, ◌-◌, ◌≤◌, IfOk, vec_len, vec_capacity, replicate, sum_by};
+ghost use Rattle.std.specs.Prelude.{◌≡◌, ◌+◌, ◌-◌, ◌≤◌, IfOk, None, Some, vec_len, vec_capacity, replicate, sum_by, min};
 ghost use Rattle.vg_model.specs.PoolBook.{IsPoolBook, empty_cache};
-ghost use Rattle.vg_pool.specs.Moves.{taken_of, given_of};
+ghost use Rattle.vg_pool.specs.Moves.{taken_of, given_of, wanted, surplus};
+ghost use Rattle.vg_pool.specs.Settlement.{book, settlement_of};
 
 use crate::books::PoolLedger;
 use crate::buffers::Buffer;
 use crate::caches::{Cache, MOST_CACHED};
+use crate::settled::Settled;
 use std::alloc::{AllocError, Global};
 use std::marker::Model;
 use std::sync::ledger::{Blank, Book, Ledger, Share};
@@ -13,6 +15,12 @@ use vg_model::Memory;
 
 /// Where so many buffers were ever taken from a pool, it gives no more.
 pub const MOST_TAKEN: u64 = 1 << 62;
+
+/// How many buffers go between a pool and a cache at once.
+pub const LOT: u32 = 128;
+
+/// A cache with more buffers gives some back.
+pub const MOST_KEPT: u32 = 256;
 
 /// The buffers that no cache has, and the books of those ever taken and ever given back.
 #[derive(Drop)]
@@ -26,15 +34,17 @@ pub struct Pool<T: PoolLedger, G: Ledger> {
     // What is left of the shares once each cache has its part: nothing.
     no_taken: Share<T>,
     no_given: Share<G>,
+    // What the settlement came to, once there was one.
+    settled: Option<Settled>,
 }
 
 impl<T: PoolLedger, G: Ledger> Model for Pool<T, G> {
     ghost use Rattle.std.specs.Prelude.{◌≡◌, ◌+◌, ◌^◌, ◌<◌, ◌≤◌, vec_len, vec_capacity};
-    ghost use Rattle.vg_model.specs.PoolBook.{PoolBook};
+    ghost use Rattle.vg_pool.specs.Settlement.{PoolState};
 
-    ghost Value = { PoolBook };
+    ghost Value = { PoolState };
 
-    ghost view = { λ p. record { len = vec_len p.list; taken = p.taken.total; given = p.given.total } };
+    ghost view = { λ p. record { len = vec_len p.list; taken = p.taken.total; given = p.given.total; settled = p.settled } };
 
     ghost invariant = { λ p. (p.total ≡ T.total) × (p.total < 2 ^ 32) × (p.taken_so_far ≡ p.taken.total)
         × (vec_len p.list ≤ p.total) × (p.total ≤ vec_capacity p.list)
@@ -60,7 +70,7 @@ impl<T: PoolLedger, G: Ledger> Pool<T, G> {
         requires total { total ≡ T.total }
         requires taken { (taken.name ≡ T.name) × (taken.parts ≡ T.parts) × (taken.parts ≡ caches) }
         requires given { (given.name ≡ G.name) × (given.parts ≡ G.parts) × (given.parts ≡ caches) }
-        ensures pool { IfOk result (λ made. made.0 ≡ record { len = total; taken = 0; given = 0 }) }
+        ensures pool { IfOk result (λ made. made.0 ≡ record { len = total; taken = 0; given = 0; settled = None }) }
         ensures caches { IfOk result (λ made. made.1.items ≡ replicate caches empty_cache) }
     {
         match Pool::made(alloc, total, caches, taken, given) {
@@ -79,7 +89,7 @@ impl<T: PoolLedger, G: Ledger> Pool<T, G> {
         requires total { total ≡ T.total }
         requires taken { (taken.name ≡ T.name) × (taken.parts ≡ T.parts) × (taken.parts ≡ caches) }
         requires given { (given.name ≡ G.name) × (given.parts ≡ G.parts) × (given.parts ≡ caches) }
-        ensures pool { IfOk result (λ made. made.0 ≡ record { len = total; taken = 0; given = 0 }) }
+        ensures pool { IfOk result (λ made. made.0 ≡ record { len = total; taken = 0; given = 0; settled = None }) }
         ensures caches { IfOk result (λ made. made.1.items ≡ replicate caches empty_cache) }
     {
         let list = buffers(alloc, total as usize)?;
@@ -98,6 +108,7 @@ impl<T: PoolLedger, G: Ledger> Pool<T, G> {
             given,
             no_taken,
             no_given,
+            settled: None,
         };
         Ok((pool, made))
     }
@@ -105,7 +116,7 @@ impl<T: PoolLedger, G: Ledger> Pool<T, G> {
     /// How many buffers are in the pool.
     pub fn len(&self) -> u32
         ensures len { result ≡ self.now.len }
-        ensures kept { IsPoolBook T.total self.now }
+        ensures kept { IsPoolBook T.total (book self.now) }
     {
         self.list.len() as u32
     }
@@ -141,6 +152,29 @@ impl<T: PoolLedger, G: Ledger> Pool<T, G> {
         count as u32
     }
 
+    /// Where the cache is empty, takes [`LOT`] buffers, as `take` does; else none. Answers how many.
+    pub(crate) fn refill(&mut self, cache: &mut Cache<T, G>) -> u32
+        ensures count { result ≡ taken_of (wanted cache.old) self.old cache.old }
+        ensures pool { self.new ≡ record self.old { len = self.old.len - result; taken = self.old.taken + result } }
+        ensures cache { cache.new ≡ record cache.old { len = cache.old.len + result; taken = cache.old.taken + result } }
+    {
+        if cache.len() > 0 {
+            return 0;
+        }
+        self.take(LOT, cache)
+    }
+
+    /// Gives lots of [`LOT`] buffers back, as `give` does, as long as the cache has more than [`MOST_KEPT`] and the pool isn't
+    /// full. Answers how many.
+    pub(crate) fn relieve(&mut self, cache: &mut Cache<T, G>) -> u32
+        ensures count { result ≡ given_of T.total (surplus cache.old) self.old cache.old }
+        ensures pool { self.new ≡ record self.old { len = self.old.len + result; given = self.old.given + result } }
+        ensures cache { cache.new ≡ record cache.old { len = cache.old.len - result; given = cache.old.given + result } }
+    {
+        let lots = cache.len().saturating_sub(MOST_KEPT).div_ceil(LOT);
+        self.give(lots * LOT, cache)
+    }
+
     /// Takes all buffers of the caches back. The caches are all those that were made with the pool, and no more buffers were freed
     /// into them than came out of them.
     ///
@@ -151,11 +185,14 @@ impl<T: PoolLedger, G: Ledger> Pool<T, G> {
         ensures len { self.new.len + sum_by (λ c. c.allocated) caches.items ≡ T.total + sum_by (λ c. c.freed) caches.items }
         ensures taken { self.new.taken ≡ self.old.taken }
         ensures given { self.new.given + self.old.len ≡ self.old.given + self.new.len }
+        ensures settled { self.new.settled ≡ Some (settlement_of T.total self.new.len caches.items) }
     {
         let mut taken = self.no_taken.empty();
         let mut given = self.no_given.empty();
+        let mut allocated = 0_u64;
         for mut cache in caches {
             self.give(cache.len(), &mut cache);
+            allocated = allocated.saturating_add(cache.allocated());
             let (cache_taken, cache_given) = cache.into_shares();
             taken.merge(cache_taken);
             given.merge(cache_given);
@@ -163,10 +200,26 @@ impl<T: PoolLedger, G: Ledger> Pool<T, G> {
         // The books now say that every buffer had its place in the list.
         self.taken.audit(&mut taken);
         self.given.audit(&mut given);
+        let settled = Settled::new(self.list.len() as u32, self.total, allocated);
+        self.settled = Some(settled);
     }
 
-    /// Gives the memory of its buffers back.
-    pub fn end(self) {}
+    /// Gives the memory of its buffers back, and answers what its settlement came to; `None` exactly where it was never settled.
+    pub fn end(self) -> Option<Settled>
+        ensures { result ≡ self.settled }
+    {
+        let Pool {
+            list: _,
+            total: _,
+            taken_so_far: _,
+            taken: _,
+            given: _,
+            no_taken: _,
+            no_given: _,
+            settled,
+        } = self;
+        settled
+    }
 }
 
 // So many empty buffers.

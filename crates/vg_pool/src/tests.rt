@@ -3,23 +3,24 @@ ghost use Rattle.std.specs.Prelude.{◌≡◌, [], ◌∷◌};
 ghost use Rattle.vg_model.specs.Packet.{fresh};
 ghost use Rattle.vg_pool.specs.Contents.{Passes, written};
 
-use crate::{Buffer, Cache, Pool, PoolLedger};
+use crate::{Buffer, Cache, LockedPool, Pool, PoolLedger, Settled};
 use std::alloc::Global;
 use std::marker::Brand;
 use std::process::Abort;
+use std::sync::Wait;
 use std::sync::ledger::{Blank, Ledger};
 use std::test::Fail;
 use vg_model::Leg;
 
-// A pool of 300 with two caches: buffers are taken, allocated and freed, one of them into the other cache, and settled. How many
-// the pool has then.
+// A pool of 300 with two caches: buffers are taken, allocated and freed, one of them into the other cache, and settled. What came
+// of it.
 fn settled<T: PoolLedger, G: Ledger, R: Abort>(
     rt: &R,
     alloc: Global,
     taken: Blank,
     given: Blank,
     loses_one: bool,
-) -> Result<u32, Fail>
+) -> Result<Settled, Fail>
     requires total { T.total ≡ 300 }
     requires taken { (taken.name ≡ T.name) × (taken.parts ≡ T.parts) × (taken.parts ≡ 2) }
     requires given { (given.name ≡ G.name) × (given.parts ≡ G.parts) × (given.parts ≡ 2) }
@@ -45,24 +46,126 @@ fn settled<T: PoolLedger, G: Ledger, R: Abort>(
     caches.push(second)?;
     pool.settle(caches);
     let len = pool.len();
-    pool.end();
-    Ok(len)
+    let settled = pool.end().ok_or("a settlement")?;
+    assert_eq!(rt; settled.len(), len);
+    Ok(settled)
 }
 
 // The same under ledgers of its own.
-fn settled_anew<R: Abort>(rt: &R, alloc: Global, loses_one: bool) -> Result<u32, Fail> {
+fn settled_anew<R: Abort>(rt: &R, alloc: Global, loses_one: bool) -> Result<Settled, Fail> {
     settled::<Brand, Brand, R>(rt, alloc, Blank::new(2), Blank::new(2), loses_one)
 }
 
 #[test]
 fn all_buffers_are_back_as_the_caches_are_settled(rt: HostRuntime) -> Result<(), Fail> {
-    assert_eq!(rt; settled_anew(&rt, rt.alloc(), false)?, 300);
+    let settled = settled_anew(&rt, rt.alloc(), false)?;
+    assert_eq!(rt; settled.len(), 300);
+    assert_eq!(rt; settled.total(), 300);
+    assert_eq!(rt; settled.allocated(), 2);
     Ok(())
 }
 
 #[test]
 fn a_dropped_buffer_is_missing_as_the_caches_are_settled(rt: HostRuntime) -> Result<(), Fail> {
-    assert_eq!(rt; settled_anew(&rt, rt.alloc(), true)?, 299);
+    let settled = settled_anew(&rt, rt.alloc(), true)?;
+    assert_eq!(rt; settled.len(), 299);
+    assert_eq!(rt; settled.total(), 300);
+    Ok(())
+}
+
+// A pool of 300 with two caches behind a lock: each is filled, and both are given back.
+fn shared<T: PoolLedger, G: Ledger, R: Abort + Wait>(
+    rt: &R,
+    alloc: Global,
+    taken: Blank,
+    given: Blank,
+) -> Result<u32, Fail>
+    requires total { T.total ≡ 300 }
+    requires taken { (taken.name ≡ T.name) × (taken.parts ≡ T.parts) × (taken.parts ≡ 2) }
+    requires given { (given.name ≡ G.name) × (given.parts ≡ G.parts) × (given.parts ≡ 2) }
+{
+    let (pool, mut caches) = Pool::<T, G>::new(alloc, 300, 2, taken, given)?;
+    let pool = LockedPool::new(pool);
+    let mut second: Cache<T, G> = caches.pop().ok_or("a cache")?;
+    let mut first = caches.pop().ok_or("another cache")?;
+    assert_eq!(rt; pool.refill(rt, &mut first), 128);
+    assert_eq!(rt; pool.refill(rt, &mut first), 0);
+    assert_eq!(rt; pool.refill(rt, &mut second), 128);
+    caches.push(first)?;
+    caches.push(second)?;
+    let pool = pool.close(caches);
+    Ok(pool.len())
+}
+
+// The same under ledgers of its own.
+fn shared_anew<R: Abort + Wait>(rt: &R, alloc: Global) -> Result<u32, Fail> {
+    shared::<Brand, Brand, R>(rt, alloc, Blank::new(2), Blank::new(2))
+}
+
+#[test]
+fn caches_are_filled_from_a_shared_pool(rt: HostRuntime) -> Result<(), Fail> {
+    assert_eq!(rt; shared_anew(&rt, rt.alloc())?, 300);
+    Ok(())
+}
+
+// A pool of 600 with two caches, one of which takes 513 buffers and is relieved: of three times 128, since after two of them it
+// still has 257.
+fn relieved<T: PoolLedger, G: Ledger, R: Abort + Wait>(
+    rt: &R,
+    alloc: Global,
+    taken: Blank,
+    given: Blank,
+) -> Result<(), Fail>
+    requires total { T.total ≡ 600 }
+    requires taken { (taken.name ≡ T.name) × (taken.parts ≡ T.parts) × (taken.parts ≡ 2) }
+    requires given { (given.name ≡ G.name) × (given.parts ≡ G.parts) × (given.parts ≡ 2) }
+{
+    let (mut pool, mut caches) = Pool::<T, G>::new(alloc, 600, 2, taken, given)?;
+    let mut cache: Cache<T, G> = caches.pop().ok_or("a cache")?;
+    assert_eq!(rt; pool.take(513, &mut cache), 513);
+    let pool = LockedPool::new(pool);
+    assert_eq!(rt; pool.relieve(rt, &mut cache), 384);
+    assert_eq!(rt; cache.len(), 129);
+    assert_eq!(rt; pool.relieve(rt, &mut cache), 0);
+    caches.push(cache)?;
+    let pool = pool.close(caches);
+    assert_eq!(rt; pool.len(), 600);
+    assert!(rt; pool.end().is_some());
+    Ok(())
+}
+
+// The same under ledgers of its own.
+fn relieved_anew<R: Abort + Wait>(rt: &R, alloc: Global) -> Result<(), Fail> {
+    relieved::<Brand, Brand, R>(rt, alloc, Blank::new(2), Blank::new(2))
+}
+
+#[test]
+fn a_cache_with_too_many_buffers_is_relieved(rt: HostRuntime) -> Result<(), Fail> {
+    relieved_anew(&rt, rt.alloc())
+}
+
+// A pool that ends with its caches unsettled.
+fn unsettled<T: PoolLedger, G: Ledger>(
+    alloc: Global,
+    taken: Blank,
+    given: Blank,
+) -> Result<Option<Settled>, Fail>
+    requires total { T.total ≡ 300 }
+    requires taken { (taken.name ≡ T.name) × (taken.parts ≡ T.parts) × (taken.parts ≡ 1) }
+    requires given { (given.name ≡ G.name) × (given.parts ≡ G.parts) × (given.parts ≡ 1) }
+{
+    let (pool, _caches) = Pool::<T, G>::new(alloc, 300, 1, taken, given)?;
+    Ok(pool.end())
+}
+
+// The same under ledgers of its own.
+fn unsettled_anew(alloc: Global) -> Result<Option<Settled>, Fail> {
+    unsettled::<Brand, Brand>(alloc, Blank::new(1), Blank::new(1))
+}
+
+#[test]
+fn a_pool_that_is_not_settled_tells_nothing(rt: HostRuntime) -> Result<(), Fail> {
+    assert!(rt; unsettled_anew(rt.alloc())?.is_none());
     Ok(())
 }
 
@@ -114,10 +217,16 @@ fn a_packet_is_put_into_a_buffer_and_changed(rt: HostRuntime) -> Result<(), Fail
 // A type whose values may go to another thread.
 fn crosses_threads<T: Send>() {}
 
+// A type whose values several threads may use at once.
+fn is_shared<T: Sync>() {}
+
 fn parts_cross_threads<T: PoolLedger + Send, G: Ledger + Send>() {
     crosses_threads::<Buffer>();
     crosses_threads::<Cache<T, G>>();
     crosses_threads::<Pool<T, G>>();
+    crosses_threads::<LockedPool<T, G>>();
+    is_shared::<LockedPool<T, G>>();
+    crosses_threads::<Settled>();
 }
 
 #[test]
