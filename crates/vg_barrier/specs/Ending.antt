@@ -2,7 +2,9 @@
 use Rattle.std.specs.Prelude.{◌≡◌, ℕ, slice_index, Option}
 use mathlib.Core.Option.{some}
 use lib.ListN.{get_elem?}
-use Rattle.atomic_table.specs.Table.{State}
+use Rattle.vg_steps.specs.Table.{State}
+use Rattle.vg_steps.specs.Seats.{id_of}
+use Rattle.vg_barrier.specs.declared.barrier.TheConstants.{REQUEST, ARRIVALS, GENERATION}
 use Rattle.vg_barrier.specs.declared.parcel.Stamped.{Stamped}
 use Rattle.vg_barrier.specs.declared.barrier.Barrier.{Barrier}
 use Rattle.vg_barrier.specs.declared.ending.Words.{Words}
@@ -14,6 +16,10 @@ use Rattle.vg_barrier.specs.Machine.{Kept}
 
 module _ {P B : Type 0} (fits_book : P → B → Type 0) (mark_of generation_of : P → ℕ) where
   -- the words are those of a state that keeps the rule, and in which main knows what it knows at this place
-  abbrev pub IsEnd : Barrier P B → Place P B → Words → Type 0
-  IsEnd b p words = (s : State (Option (Stamped P)) (View B)) × Kept fits_book mark_of generation_of (workers_of b) s × (get_elem? s.views p.id ≡ some (Main (main_view p)))
-      × (slice_index s.words 0 ≡ words.request) × (slice_index s.words 1 ≡ words.arrivals) × (slice_index s.words 2 ≡ words.generation)
+  pub record IsEnd (b : Barrier P B) (p : Place P B) (words : Words) : Type 0 where
+    pub state : State (Option (Stamped P)) (View B)
+    pub rule : Kept fits_book mark_of generation_of (workers_of b) state
+    pub main : get_elem? state.views (id_of p) ≡ some (Main (main_view p))
+    pub request : slice_index state.words REQUEST ≡ words.request
+    pub arrivals : slice_index state.words ARRIVALS ≡ words.arrivals
+    pub generation : slice_index state.words GENERATION ≡ words.generation

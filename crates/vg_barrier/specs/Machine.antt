@@ -33,7 +33,8 @@ use Rattle.std.specs.Prelude.{◌≡◌, ◌≢◌, ℕ, ◌+◌, ◌-◌, ◌*�
 use Rattle.std.proofs.Common.{zero, suc}
 use mathlib.Core.Option.{some}
 use lib.ListN.{get_elem?}
-use Rattle.atomic_table.specs.Table.{State}
+use Rattle.vg_steps.specs.Table.{State}
+use Rattle.vg_barrier.specs.declared.barrier.TheConstants.{APART, REQUEST, ARRIVALS, GENERATION, MARKS}
 use Rattle.vg_barrier.specs.declared.parcel.Stamped.{Stamped}
 use Rattle.vg_barrier.specs.declared.views.MainPhase.{MainPhase}
 use Rattle.vg_barrier.specs.declared.views.MainPhase.TheVariants.{Idle, Asked, Holding, Clearing}
@@ -43,6 +44,10 @@ use Rattle.vg_barrier.specs.declared.views.MainView.{MainView}
 use Rattle.vg_barrier.specs.declared.views.WorkerView.{WorkerView}
 use Rattle.vg_barrier.specs.declared.views.View.{View}
 use Rattle.vg_barrier.specs.declared.views.View.TheVariants.{Main, Worker}
+
+-- where the mark of worker k's parcel stands. Behind the last worker's the words end
+abbrev pub mark_word : ℕ → ℕ
+mark_word k = k * APART + MARKS
 
 -- 1 where a worker counts as arrived
 abbrev pub arrived : WorkerPhase → ℕ
@@ -119,7 +124,7 @@ module _ {P B : Type 0} (fits_book : P → B → Type 0) (mark_of generation_of 
     pub main : MainView B
     pub made : List (WorkerView B)
     pub views : s.views ≡ Main main ∷ map Worker made
-    pub words : length s.words ≡ workers + 3
+    pub words : length s.words ≡ mark_word workers
     pub homes : length s.homes ≡ workers
     pub few : workers ≤ 8
     pub counted : main.made ≡ length made
@@ -127,25 +132,25 @@ module _ {P B : Type 0} (fits_book : P → B → Type 0) (mark_of generation_of 
     -- all workers are made before main first asks
     pub unmade : length made < workers → (main.phase ≡ Clearing) × (main.stamp ≡ 0)
     -- the request word is odd exactly in Asked and Holding, and main's stamp is half of it
-    pub request : slice_index s.words 0 ≡ 2 * main.stamp + asking main.phase
+    pub request : slice_index s.words REQUEST ≡ 2 * main.stamp + asking main.phase
     -- the arrival count is the number of Parked and Leaving workers, where one that isn't made yet counts as Parked
-    pub arrival : slice_index s.words 1 ≡ arrivals made + (workers - length made)
-    pub each : (k : ℕ) (v : WorkerView B) → get_elem? made k ≡ some v → WorkerKept main (slice_index s.words 0) (slice_index s.words 2) (slice_index s.words (k + 3)) k v
+    pub arrival : slice_index s.words ARRIVALS ≡ arrivals made + (workers - length made)
+    pub each : (k : ℕ) (v : WorkerView B) → get_elem? made k ≡ some v → WorkerKept main (slice_index s.words REQUEST) (slice_index s.words GENERATION) (slice_index s.words (mark_word k)) k v
     -- main has parcels in Holding alone
     pub empty_handed : main.phase ≢ Holding → (main.with ≡ 0) × (main.returning ≡ false)
     pub with_few : main.with ≤ workers
     pub marked : length main.marks ≡ workers
     -- a parcel that is with neither its worker nor main is in its slot
     pub slot : (k : ℕ) → k < workers → has_at made k ≡ false → main.with ≤ k
-        → (x : Stamped P) × (get_elem? s.homes k ≡ some (some (Some x))) × ParcelKept main (slice_index s.words 2) (slice_index s.words (k + 3)) x
+        → (x : Stamped P) × (get_elem? s.homes k ≡ some (some (Some x))) × ParcelKept main (slice_index s.words GENERATION) (slice_index s.words (mark_word k)) x
     -- main knows the mark of each worker that isn't made, and of each parcel that it has taken
-    pub unmade_mark : (k : ℕ) → length made ≤ k → k < workers → slice_index main.marks k ≡ slice_index s.words (k + 3)
-    pub taken_mark : (k : ℕ) → k < workers → (k < main.with) ⊎ (main.returning ≡ true) → slice_index main.marks k ≡ slice_index s.words (k + 3)
+    pub unmade_mark : (k : ℕ) → length made ≤ k → k < workers → slice_index main.marks k ≡ slice_index s.words (mark_word k)
+    pub taken_mark : (k : ℕ) → k < workers → (k < main.with) ⊎ (main.returning ≡ true) → slice_index main.marks k ≡ slice_index s.words (mark_word k)
     -- The published generation is that of the last release, which is 0 before the first. Once main has given a parcel back
     -- it is the one given back, which is that of the last release or the next
     pub opens_at : main.stamp ≡ 0 → main.released ≡ 0
-    pub published : main.returning ≡ false → slice_index s.words 2 ≡ main.released
-    pub publishing : main.returning ≡ true → (slice_index s.words 2 ≡ main.back) × ((main.back ≡ main.released) ⊎ (main.back ≡ main.released + 1))
+    pub published : main.returning ≡ false → slice_index s.words GENERATION ≡ main.released
+    pub publishing : main.returning ≡ true → (slice_index s.words GENERATION ≡ main.back) × ((main.back ≡ main.released) ⊎ (main.back ≡ main.released + 1))
 
 -- what main knows as the table is made: no worker is made, and all count as Parked
 abbrev pub opening_view : {B : Type 0} → B → List ℕ → View B

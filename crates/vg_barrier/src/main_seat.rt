@@ -1,5 +1,7 @@
 //! Main's side of a barrier.
-ghost use Rattle.std.specs.Prelude.{◌≡◌, ◌+◌, ◌^◌, ◌<◌, ◌≤◌, false, [], length, slice_get, vec_len, vec_capacity, Some};
+ghost use Rattle.std.specs.Prelude.{◌≡◌, ◌+◌, ◌*◌, ◌^◌, ◌<◌, ◌≤◌, false, [], length, slice_get, vec_len, vec_capacity, Some};
+ghost use Rattle.vg_steps.specs.Seats.{IsSameSeat, Finds};
+ghost use Rattle.vg_barrier.specs.declared.barrier.TheConstants.{REQUEST as REQUEST_WORD};
 ghost use Rattle.vg_barrier.specs.Seats.{IsMain, Numbers, MayReturn, main_view};
 ghost use Rattle.vg_barrier.specs.Barrier.{IsSeatOf};
 ghost use Rattle.vg_barrier.specs.Steps.{asked};
@@ -98,7 +100,8 @@ impl<P: Parcel + Drop> MainSeat<P> {
     pub fn ask(self, barrier: &Barrier<P>) -> Asked<P>
         requires seat { IsSeatOf self.seat barrier.now }
         requires room { (main_view self.seat).stamp < 2 ^ 62 }
-        ensures seat { result.seat.table_id ≡ self.seat.table_id }
+        ensures seat { IsSameSeat self.seat result.seat }
+        ensures trail { Finds self.seat REQUEST_WORD (2 * (main_view self.seat).stamp + 1) result.seat }
         ensures step { main_view result.seat ≡ asked (main_view self.seat) }
     {
         let MainSeat {
@@ -107,7 +110,7 @@ impl<P: Parcel + Drop> MainSeat<P> {
             parcels,
             mut seat,
         } = self;
-        let words = &barrier.table.shared;
+        let words = &barrier.table;
         words.store::<Ask>(&mut seat, REQUEST, 2 * stamp + 1);
         Asked {
             stamp,
@@ -147,7 +150,7 @@ impl<P: Parcel + Drop> Asked<P> {
             mut parcels,
             mut seat,
         } = self;
-        let words = &barrier.table.shared;
+        let words = &barrier.table;
         let seen = words.load::<CountArrivals>(&mut seat, ARRIVALS);
         if seen == workers as u64 {
             take_all(barrier, &mut seat, &mut parcels, workers);
@@ -208,7 +211,7 @@ impl<P: Parcel + Drop> Held<P> {
         } = self;
         let stamp = stamp + 1;
         return_all(barrier, &mut seat, &mut parcels, stamp);
-        let words = &barrier.table.shared;
+        let words = &barrier.table;
         words.store::<Release>(&mut seat, REQUEST, 2 * stamp);
         Clearing {
             stamp,
@@ -234,7 +237,7 @@ impl<P: Parcel + Drop> Clearing<P> {
             parcels,
             mut seat,
         } = self;
-        let words = &barrier.table.shared;
+        let words = &barrier.table;
         let seen = words.load::<CountLeavers>(&mut seat, ARRIVALS);
         if seen == 0 {
             Cleared::Idle(MainSeat {

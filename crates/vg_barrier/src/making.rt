@@ -1,21 +1,22 @@
 //! How a barrier is made, with main and its workers.
-ghost use Rattle.std.specs.Prelude.{◌≡◌, ◌<◌, ◌≤◌, [], ◌∷◌, length, map, IfOk};
+ghost use Rattle.std.specs.Prelude.{◌≡◌, ◌<◌, ◌≤◌, [], length, map, IfOk};
+ghost use Rattle.vg_steps.specs.Seats.{me_of};
 ghost use Rattle.vg_barrier.specs.Seats.{main_view, worker_view};
 ghost use Rattle.vg_barrier.specs.Barrier.{IsSeatOf, workers_of};
-ghost use Rattle.vg_barrier.specs.Parcels.{wrapped, AreFirst};
+ghost use Rattle.vg_barrier.specs.Parcels.{wrapped, AreFirst, AreFirstWords};
 ghost use Rattle.vg_barrier.specs.Machine.{opening_view};
 ghost use Rattle.vg_barrier.specs.Steps.{made_one, newcomer};
 ghost use Rattle.vg_barrier.specs.declared.views.MainPhase.TheVariants.{Clearing as is_clearing};
 
-use crate::barrier::Barrier;
+use crate::barrier::{APART, ARRIVALS, Barrier, MARKS};
 use crate::main_seat::{Cleared, Clearing, MainSeat};
 use crate::parcel::{Parcel, Stamped};
 use crate::plays::MakeWorker;
 use crate::views::{About, Place};
 use crate::worker_seat::{Check, ParkedSeat, Running};
-use atomic_table::Table;
 use std::alloc::Global;
 use vg_model::Memory;
+use vg_steps::Table;
 
 /// A barrier, with main's seat and the workers', which stand by their numbers.
 #[derive(Drop)]
@@ -38,20 +39,18 @@ fn marks_of<P: Parcel>(alloc: Global, parcels: &Vec<P>) -> Result<Vec<u64>, Memo
     Ok(marks)
 }
 
-// The words as the table is made: main doesn't ask, all workers count as parked, and the generation is 0.
+// The words as the table is made.
 fn words_of(alloc: Global, marks: &Vec<u64>) -> Result<Vec<u64>, Memory>
-    ensures { IfOk result (λ words. words.items ≡ 0 ∷ length marks.now.items ∷ 0 ∷ marks.now.items) }
+    requires { length marks.now.items ≤ 8 }
+    ensures { IfOk result (λ words. AreFirstWords words.items marks.now.items) }
 {
-    let mut words = Vec::new(alloc);
-    for word in [0, marks.len() as u64, 0] {
-        let Ok(()) = words.push(word) else {
-            return Err(Memory);
-        };
-    }
-    for mark in marks {
-        let Ok(()) = words.push(*mark) else {
-            return Err(Memory);
-        };
+    let workers = marks.len();
+    let Ok(mut words) = vec![in alloc; 0; workers * APART + MARKS] else {
+        return Err(Memory);
+    };
+    words[ARRIVALS] = workers as u64;
+    for k in 0..marks.len() {
+        words[k * APART + MARKS] = marks[k];
     }
     Ok(words)
 }
@@ -80,7 +79,7 @@ where
     fn lay(alloc: Global, book: P::Book, parcels: Vec<P>) -> Result<(Barrier<P>, Place<P>), Memory>
         requires few { length parcels.items ≤ 8 }
         requires first { AreFirst P.fits P.generation book parcels.items }
-        ensures { IfOk result (λ p. (workers_of p.0 ≡ length parcels.items) × IsSeatOf p.1 p.0 × (p.1.me ≡ (opening_view book (map P.mark parcels.items), []))) }
+        ensures { IfOk result (λ p. (workers_of p.0 ≡ length parcels.items) × IsSeatOf p.1 p.0 × (me_of p.1 ≡ (opening_view book (map P.mark parcels.items), []))) }
     {
         let marks = marks_of(alloc, &parcels)?;
         let words = words_of(alloc, &marks)?;
@@ -100,13 +99,13 @@ where
     // The next worker, which has this number. It is parked.
     fn make_worker(&self, seat: &mut Place<P>, number: usize) -> ParkedSeat<P>
         requires seat { IsSeatOf seat.old self.now }
-        requires main { (seat.old.me ≡ (Main (main_view seat.old), [])) × ((main_view seat.old).phase ≡ is_clearing) }
+        requires main { (me_of seat.old ≡ (Main (main_view seat.old), [])) × ((main_view seat.old).phase ≡ is_clearing) }
         requires number { (number ≡ (main_view seat.old).made) × (number < workers_of self.now) × (number < 8) }
         ensures seats { IsSeatOf seat.new self.now × IsSeatOf result.seat self.now }
-        ensures main { seat.new.me ≡ (Main (made_one (main_view seat.old)), []) }
+        ensures main { me_of seat.new ≡ (Main (made_one (main_view seat.old)), []) }
         ensures worker { worker_view result.seat ≡ newcomer (main_view seat.old) }
     {
-        let seat = self.table.shared.split_seat::<MakeWorker>(seat);
+        let seat = self.table.split_seat::<MakeWorker>(seat);
         ParkedSeat { number, seat }
     }
 

@@ -4,7 +4,7 @@ ghost use Rattle.vg_barrier.specs.Seats.{IsWorker, HasNumber, worker_view};
 ghost use Rattle.vg_barrier.specs.Barrier.{IsSeatOf};
 ghost use Rattle.vg_barrier.specs.declared.views.WorkerPhase.TheVariants.{Running as is_running, Parked as is_parked};
 
-use crate::barrier::{ARRIVALS, Barrier, GENERATION, MARKS, REQUEST};
+use crate::barrier::{APART, ARRIVALS, Barrier, GENERATION, MARKS, REQUEST};
 use crate::parcel::{Parcel, Stamped};
 use crate::plays::{Arrive, Depart, ReadRequest, ReceiveParcel, StoreMark};
 use crate::views::Place;
@@ -95,10 +95,10 @@ impl<P: Parcel + Drop> Running<P> {
             },
             parcel,
         } = self;
-        let words = &barrier.table.shared;
+        let words = &barrier.table;
         let request = words.load::<ReadRequest>(&mut seat, REQUEST);
         if request % 2 == 1 {
-            words.store::<StoreMark>(&mut seat, number + MARKS, parcel.mark());
+            words.store::<StoreMark>(&mut seat, number * APART + MARKS, parcel.mark());
             match words.exchange(&mut seat, number, Some(Stamped { stamp, parcel })) {
                 None => {}
                 Some(_) => unreachable!(),
@@ -127,9 +127,9 @@ impl<P: Parcel + Drop> ParkedSeat<P> {
         ensures { Polls self result }
     {
         let ParkedSeat { number, mut seat } = self;
-        let words = &barrier.table.shared;
-        let request = words.load::<ReadRequest>(&mut seat, REQUEST);
-        if request % 2 == 1 {
+        let words = &barrier.table;
+        let word = words.load::<ReadRequest>(&mut seat, REQUEST);
+        if word % 2 == 1 {
             return Check::Parked(ParkedSeat { number, seat });
         }
         words.load::<ReceiveParcel>(&mut seat, GENERATION);
