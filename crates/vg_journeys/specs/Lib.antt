@@ -1,0 +1,15 @@
+pub mod Chains
+pub mod Trips
+pub mod Treks
+pub mod Runs
+pub mod Accounts
+pub mod Moments
+pub mod Kept
+pub mod LegFacts
+pub mod Turns
+pub mod Steps
+pub mod Outcomes
+pub mod Windows
+pub mod SameEnd
+pub mod Ends
+pub mod Ended
