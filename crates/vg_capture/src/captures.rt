@@ -116,7 +116,7 @@ impl Packets {
     ///
     /// # Errors
     ///
-    /// [`AllocError`] where memory runs out, or the packets have 2^32 bytes or more.
+    /// [`AllocError`] where memory runs out, or where a packet would begin at byte 2^32 or later, or has 2^32 bytes or more.
     pub fn of(alloc: Global, packets: &[Captured]) -> Result<Packets, AllocError>
         requires { length packets.now ≤ MOST_PACKETS }
         ensures { IfOk result (λ made. made ≡ packets.now) }

@@ -58,7 +58,7 @@ impl Savefile {
     ///
     /// # Errors
     ///
-    /// [`AllocError`] where memory runs out.
+    /// [`AllocError`] where memory runs out. Then half a record may stand there, so the savefile is of no use any more.
     pub fn put(&mut self, capture: &Capture, number: u32, bytes: &[u8]) -> Result<(), AllocError>
         requires number { number < length capture.now.packets }
         requires len { length bytes.now < 2 ^ 32 }

@@ -12,9 +12,9 @@
 //! = 2,424,832 bytes. Two tries, those before and after a change, so take less than 14 million bytes. An entry names a
 //! route by its number, so it stays as small where a target grows.
 //!
-//! [`Mtrie::renewed`] brings a trie up to date with its table in place: targets are copied from the table, and a new prefix costs the
-//! places that it covers. It takes the trie by value, so nobody looks up in it meanwhile. [`Mtrie::find`] only reads, so the workers of
-//! one generation can share a trie behind a reference.
+//! [`Mtrie::renewed`] brings a trie up to date with its table in place: all known prefixes are compared, all routes are copied from the
+//! table, and a new prefix costs the places that it covers. It takes the trie by value, so nobody looks up in it meanwhile.
+//! [`Mtrie::find`] only reads, so the workers of one generation can share a trie behind a reference.
 #![tactic(auto)]
 
 pub mod laws;

@@ -1,5 +1,5 @@
 //! The table of routes.
-ghost use Rattle.std.specs.Prelude.{◌≡◌, ◌↔◌, ℕ, ◌<◌, ◌≤◌, ◌∷◌, ◌++◌, [], length, map, remove, slice_index, IfErr, IfOk, IsErr, IsOk, OnErr, OnOk, MatchOption, MatchResult};
+ghost use Rattle.std.specs.Prelude.{◌≡◌, ◌↔◌, ℕ, ◌<◌, ◌≤◌, ◌∷◌, ◌++◌, [], length, map, remove, slice_index, IfErr, IfOk, IsErr, IsOk, IsTrue, OnErr, OnOk, MatchOption, MatchResult};
 ghost use Rattle.std.specs.List.{insert};
 ghost use Rattle.vg_model.specs.Route.{best_route, covers as covers_address};
 ghost use Rattle.vg_model.specs.Edit.{most_routes, placed, route_place};
@@ -117,12 +117,16 @@ impl Fib {
                 self.routes[place] = (prefix, to);
                 Ok(())
             }
-            Err(_) if self.routes.len() >= MOST_ROUTES => Err(FibError::TooMany),
-            Err(at) => {
-                add(&mut self.routes, &mut self.order, at, (prefix, to))?;
-                Ok(())
-            }
+            Err(_) if self.is_full() => Err(FibError::TooMany),
+            Err(at) => Ok(add(&mut self.routes, &mut self.order, at, (prefix, to))?),
         }
+    }
+
+    // Whether no new prefix may be set.
+    fn is_full(&self) -> bool
+        ensures { IsTrue result ↔ (MOST_ROUTES ≤ length self.now) }
+    {
+        self.routes.len() >= MOST_ROUTES
     }
 
     /// Takes the route of a prefix out; the others stay in their order. It takes no memory.
@@ -182,14 +186,9 @@ impl Fib {
             mut routes,
             mut order,
         } = self;
-        match overwrite(&mut routes, other.routes.as_slice()) {
-            Ok(()) => {}
-            Err(_) => return Err(Memory),
-        }
-        match overwrite(&mut order, other.order.as_slice()) {
-            Ok(()) => Ok(Fib { routes, order }),
-            Err(_) => Err(Memory),
-        }
+        overwrite(&mut routes, other.routes.as_slice()).map_err(|_| Memory)?;
+        overwrite(&mut order, other.order.as_slice()).map_err(|_| Memory)?;
+        Ok(Fib { routes, order })
     }
 }
 

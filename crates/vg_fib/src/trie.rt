@@ -65,7 +65,8 @@ impl Levels {
     }
 
     // Puts the routes from this place on in, where those before it are in. A route's number is its place and one more,
-    // and 0 is no route. Shorter prefixes are put first, so that the children of longer ones are not gone through.
+    // and 0 is no route. Shorter prefixes are put first, so that the children that longer ones of them will make are not
+    // gone through.
     fn put_from(
         &mut self,
         alloc: Global,
@@ -270,10 +271,7 @@ impl Mtrie {
         ensures routes { IfOk result (λ trie. trie ≡ fib.now) }
         ensures finds { IfOk result (λ trie. (address : ℕ) → best_route trie address ≡ best_route fib.now address) }
     {
-        match Mtrie::anew(Levels::bare(alloc), Vec::new(alloc), alloc, fib) {
-            Ok(trie) => Ok(trie),
-            Err(_) => Err(Memory),
-        }
+        Mtrie::anew(Levels::bare(alloc), Vec::new(alloc), alloc, fib).map_err(|_| Memory)
     }
 
     /// The same as [`Mtrie::build`], in the memory of this trie as far as it is enough. Where the prefixes of this trie are the
@@ -292,10 +290,7 @@ impl Mtrie {
             let Mtrie { levels, routes } = self;
             Mtrie::anew(levels, routes, alloc, fib)
         };
-        match answer {
-            Ok(trie) => Ok(trie),
-            Err(_) => Err(Memory),
-        }
+        answer.map_err(|_| Memory)
     }
 
     // The trie of a table, in this memory, whatever it says.
@@ -372,7 +367,7 @@ fn by_length(
     for place in known..routes.len() {
         order.push_reserved(place as u16);
     }
-    order.sort_by_key(|place| length_at(routes, usize::from(*place)))?;
+    order.sort_unstable_by_key(|place| length_at(routes, usize::from(*place)));
     Ok(order)
 }
 

@@ -46,8 +46,8 @@ impl Fork {
         Fork::over(alloc, graph, Mtrie::build(alloc, fib)?, generation)
     }
 
-    /// The same as [`Fork::of`], in the memory of this fork as far as it is enough. Where no other fork shares its trie, that is
-    /// brought up to date in place; else it stays as it is, and a new one is built.
+    /// The same as [`Fork::of`]. Where no other fork shares this fork's trie, that is brought up to date in place; else it stays as
+    /// it is, and a new one is built. The graph is copied anew.
     ///
     /// # Errors
     ///
@@ -61,11 +61,7 @@ impl Fork {
     ) -> Result<Fork, Memory>
         ensures { IfOk result (λ fork. fork ≡ forked graph.now fib.now generation) }
     {
-        let Fork {
-            graph: _,
-            trie,
-            generation: _,
-        } = self;
+        let Fork { trie, .. } = self;
         let trie = match Arc::try_unwrap(trie) {
             Ok(trie) => trie.renewed(alloc, fib)?,
             Err(_) => Mtrie::build(alloc, fib)?,

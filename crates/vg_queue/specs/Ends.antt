@@ -26,12 +26,12 @@ module _ {T : Type 0} where
   abbrev pub rx_queue : QueueRx T → TableId
   rx_queue rx = rx.pass.table_id
 
-  -- an end of the same queue
+  -- the same end of the same queue: its pass there has the same number
   abbrev pub IsSameTx : QueueTx T → QueueTx T → Type 0
-  IsSameTx before after = (tx_queue after ≡ tx_queue before) × (tx_slots after ≡ tx_slots before)
+  IsSameTx before after = (tx_queue after ≡ tx_queue before) × (tx_slots after ≡ tx_slots before) × (after.pass.id ≡ before.pass.id)
 
   abbrev pub IsSameRx : QueueRx T → QueueRx T → Type 0
-  IsSameRx before after = rx_queue after ≡ rx_queue before
+  IsSameRx before after = (rx_queue after ≡ rx_queue before) × (after.pass.id ≡ before.pass.id)
 
   -- the two ends of a new queue that holds so many items at most
   abbrev pub AreNew : ℕ → QueueTx T → QueueRx T → Type 0

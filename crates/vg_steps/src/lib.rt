@@ -7,7 +7,8 @@
 //! `fetch_sub` put one entry in front of it, and nothing else changes it.
 //!
 //! What a contract has to name, for an answer that comes by a word that a call has read: the seat's table and number, which
-//! stay the same, and its trail, which is longer by the steps of this call. Two seats have never the same table and number.
+//! stay the same, and its trail, which is longer by the steps of this call. Two seats have never the same table and number: that
+//! rests on `atomic_table`'s seats. Cutting off and taking in a seat make no entry, though each loads the table's first word.
 #![tactic(auto)]
 
 mod moves;

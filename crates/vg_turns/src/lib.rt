@@ -1,6 +1,6 @@
 //! Turns files: they say in which order main and the workers of a run make their steps.
 //!
-//! An `m` is one step of main, a digit one turn of the worker of that number, and white space is nothing. Any other byte is a fault, a
+//! Each `m` lets main make a step and each digit the worker that it numbers; white space only parts them. Any other byte is a fault, a
 //! digit that no worker has too, and so is each byte past the first 1,048,576.
 //!
 //! ```text

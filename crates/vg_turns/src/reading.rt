@@ -47,8 +47,7 @@ impl<'a> Turns<'a> {
     ///
     /// # Errors
     ///
-    /// The place, counted from 0, of the first byte that is no `m`, no digit of a worker and no white space, or that stands at
-    /// place 1,048,576.
+    /// Where the first faulty byte stands, counted from 0; what lies past the first 1,048,576 bytes is faulty too.
     pub fn read(file: &'a [u8], workers: u8) -> Result<Turns<'a>, u32>
         ensures ok { IfOk result (λ steps. turns workers file.entry.now ≡ Ok steps) }
         ensures err { IfErr result (λ place. turns workers file.entry.now ≡ Err place) }

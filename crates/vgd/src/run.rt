@@ -63,8 +63,8 @@ struct Texts {
 /// The length in bytes of the savefile of packets that were transmitted, for which room is made.
 fn savefile_len(sent: &SentList) -> usize {
     let mut bytes: usize = 0;
-    for k in 0..sent.len() {
-        bytes = bytes.saturating_add(sent.get(k).1.len());
+    for n in 0..sent.len() {
+        bytes = bytes.saturating_add(sent.get(n).1.len());
     }
     Savefile::room(sent.len(), bytes)
 }

@@ -1,4 +1,5 @@
-use Rattle.std.proofs.Common.{◌<◌, length, refl, sym, ◌∙◌, ap, arith}
+use Rattle.std.proofs.Common.{◌<◌, length, refl, sym, subst, ◌∙◌, ap, arith, inl, inr}
+use Rattle.std.proofs.lemmas.Bool.{cases_lt, iff_false}
 use Rattle.std.specs.List.{insert}
 use Rattle.vg_model.specs.Edit.{route_place}
 use Rattle.vg_fib.proofs.TableLemmas.{table_set}
@@ -21,7 +22,10 @@ invariant_of-self c =
 
 pub invariant_of-self-in-Err-2 : goal.invariant_of-self-in-Err-2
 invariant_of-self-in-Err-2 c =
-    let room : length c.self.inside.routes.items < 4096 = omega (arith, c.len.ensures, c.if-len-ge-MOST_ROUTES.false, c.self.inside.routes.ok) in
+    let room : length c.self.inside.routes.items < 4096 = subst (λ n. n < 4096) (ap length (sym c.self.view_is)) (elim (cases_lt (length c.args.self.now) 4096) [
+      | inl few ↦ few
+      | inr many ↦ absurd (iff_false c.is_full.ensures c.if-is_full.false many)
+    ]) in
     pushed c.args.prefix c.args.to c.self.inside.routes.items c.as_slice.result.now c.add.new.routes.items c.self.inside.order.items c.as_slice-2.result.now c.add.new.order.items
     c.in-Err-2.at c.self.invariant c.as_slice.ensures.value c.as_slice-2.ensures.value c.in-Err-2.ensures room c.in_ok-add-in-Err-2.ensures.routes
     (c.in_ok-add-in-Err-2.ensures.order ∙ ap (λ n. insert c.self.inside.order.items n (length c.self.inside.routes.items)) c.in-Err-2.at-is)
@@ -42,5 +46,4 @@ returns-in-Ok-clause-full c =
 pub returns-in-Err-clause-full : goal.returns-in-Err-clause-full
 returns-in-Err-clause-full c =
     let none = ap (route_place c.args.prefix) (sym c.self.view_is) ∙ ap (route_place c.args.prefix) (sym c.as_slice.ensures.value) ∙ c.in-Err.ensures.0 in
-    let len = ap length c.self.view_is in
-    ((λ e. (none, omega (arith, len, c.if-len-ge-MOST_ROUTES.true, c.len.ensures, c.self.inside.routes.ok))), (λ p. refl))
+    ((λ e. (none, c.is_full.ensures.0 c.if-is_full.true)), (λ p. refl))
