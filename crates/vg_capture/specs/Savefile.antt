@@ -6,6 +6,7 @@ use Rattle.vg_capture.specs.declared.captures.Captured.{Captured}
 use Rattle.vg_capture.specs.declared.captures.Sent.{Sent}
 use Rattle.vg_capture.specs.declared.errors.CaptureError.{CaptureError}
 use Rattle.vg_capture.specs.declared.errors.CaptureError.TheVariants as errors
+use Rattle.vg_capture.specs.Places.{number_at}
 
 -- the magic numbers: fractions of a second are microseconds, or nanoseconds
 abbrev pub microseconds_magic : ℕ
@@ -66,6 +67,10 @@ number16 order bytes place = order 2 (drop place bytes)
 -- the 32-bit number at a place
 abbrev pub number32 : Order → List ℕ → ℕ → ℕ
 number32 order bytes place = order 4 (drop place bytes)
+
+-- this is the byte order in which numbers begin with their highest byte, or else with their lowest
+abbrev pub IsOrder : Bool → Order → Type 0
+IsOrder big order = (bytes : List ℕ) (place : ℕ) → number_at big bytes place ≡ number32 order bytes place
 
 -- whether fractions are nanoseconds, where the number is a magic number
 abbrev pub unit_of : ℕ → Option Bool

@@ -1,7 +1,9 @@
 //! Captured packets, and the packets sent of them.
-ghost use Rattle.std.specs.Prelude.{◌≡◌, ◌+◌, ◌<◌, ◌≤◌, ◌∷◌, ◌++◌, [], take, drop, Some, IfOk, OnOk, length, option_map, slice_get};
-ghost use Rattle.vg_capture.specs.Places.{ArePlaces, captured_at, captured_in, marks_of};
+ghost use Rattle.std.specs.Prelude.{◌≡◌, ◌+◌, ◌<◌, ◌≤◌, ◌∷◌, ◌++◌, [], false, take, drop, Some, IfOk, OnOk, length, option_map, slice_get};
+ghost use Rattle.vg_capture.specs.Places.{ArePlaces, captured_in, captured_with, marks_of};
 
+use crate::layout::RECORD_HEADER_LEN;
+use crate::records::{head, number_at};
 use std::alloc::{AllocError, Global};
 use std::marker::Model;
 use vg_model::Bytes;
@@ -31,20 +33,21 @@ pub struct Marks {
     pub original: u32,
 }
 
-// Where the bytes of a captured packet stand, and its marks.
+// Where the record of a captured packet stands, and how many bytes it has behind its header.
 #[derive(Clone, Copy)]
 pub(crate) struct Place {
-    pub(crate) start: u32,
+    pub(crate) at: u32,
     pub(crate) len: u32,
-    pub(crate) marks: Marks,
 }
 
 /// The packets of a capture, at most [`MOST_PACKETS`]. They are seen as the list of them.
 ///
-/// The bytes of all of them stay where they were read: each packet is a place in them.
+/// Their records stay where they were read: each packet is a place in them.
 #[derive(Drop)]
 pub struct Packets {
     bytes: Bytes,
+    // Whether the numbers in the records' headers begin with their highest byte.
+    big: bool,
     places: Vec<Place>,
 }
 
@@ -58,7 +61,7 @@ impl Model for Packets {
 
     ghost Value = { List Captured };
 
-    ghost view = { λ p. captured_in p.bytes p.places.items };
+    ghost view = { λ p. captured_in p.big p.bytes p.places.items };
 
     ghost invariant = { λ p. ArePlaces p.bytes p.places.items };
 }
@@ -67,6 +70,7 @@ impl Model for Packets {
 #[derive(Drop)]
 pub struct Stretch<'a> {
     bytes: &'a [u8],
+    big: bool,
     places: &'a [Place],
 }
 
@@ -77,7 +81,7 @@ impl<'a> Model for Stretch<'a> {
 
     ghost Value = { List Captured };
 
-    ghost view = { λ s. captured_in s.bytes.now s.places.now };
+    ghost view = { λ s. captured_in s.big s.bytes.now s.places.now };
 
     ghost invariant = { λ s. ArePlaces s.bytes.now s.places.now };
 }
@@ -98,25 +102,26 @@ impl<'a> Stretch<'a> {
     {
         let places = self.places;
         let place = places[k];
-        let start = place.start as usize;
+        let start = place.at as usize + RECORD_HEADER_LEN;
         &self.bytes[start..start + place.len as usize]
     }
 }
 
 impl Packets {
-    // The packets at these places of the bytes.
-    pub(crate) fn from_places(bytes: Bytes, places: Vec<Place>) -> Packets
+    // The packets whose records stand at these places of the bytes.
+    pub(crate) fn from_places(bytes: Bytes, big: bool, places: Vec<Place>) -> Packets
         requires { ArePlaces bytes places.items }
-        ensures { result ≡ captured_in bytes places.items }
+        ensures { result ≡ captured_in big bytes places.items }
     {
-        Packets { bytes, places }
+        Packets { bytes, big, places }
     }
 
     /// These packets. Their bytes are copied.
     ///
     /// # Errors
     ///
-    /// [`AllocError`] where memory runs out, or where a packet would begin at byte 2^32 or later, or has 2^32 bytes or more.
+    /// [`AllocError`] where memory runs out, or where a record, with a header of 16 bytes, would begin at byte 2^32 or later, or a
+    /// packet has 2^32 bytes or more.
     pub fn of(alloc: Global, packets: &[Captured]) -> Result<Packets, AllocError>
         requires { length packets.now ≤ MOST_PACKETS }
         ensures { IfOk result (λ made. made ≡ packets.now) }
@@ -124,10 +129,16 @@ impl Packets {
         let mut bytes = Vec::new(alloc);
         let mut places = Vec::new(alloc);
         for packet in packets {
-            add(&mut bytes, &mut places, packet)?;
+            let marks = Marks {
+                seconds: packet.seconds,
+                fraction: packet.fraction,
+                original: packet.original,
+            };
+            add(&mut bytes, &mut places, marks, packet.bytes.as_slice())?;
         }
         Ok(Packets {
             bytes: Bytes::from_vec(bytes),
+            big: false,
             places,
         })
     }
@@ -147,6 +158,7 @@ impl Packets {
     {
         Stretch {
             bytes: self.bytes.as_slice(),
+            big: self.big,
             places: &self.places[from..from + count],
         }
     }
@@ -157,7 +169,7 @@ impl Packets {
         ensures { option_map (λ packet. packet.bytes) (slice_get self.now number) ≡ Some result.now }
     {
         let place = self.places[number];
-        let start = place.start as usize;
+        let start = place.at as usize + RECORD_HEADER_LEN;
         &self.bytes.as_slice()[start..start + place.len as usize]
     }
 
@@ -166,34 +178,38 @@ impl Packets {
         requires { number < length self.now }
         ensures { option_map marks_of (slice_get self.now number) ≡ Some result }
     {
-        self.places[number].marks
+        let at = self.places[number].at as usize;
+        let bytes = self.bytes.as_slice();
+        Marks {
+            seconds: number_at(self.big, bytes, at),
+            fraction: number_at(self.big, bytes, at + 4),
+            original: number_at(self.big, bytes, at + 12),
+        }
     }
 }
 
-// Adds a packet behind the others: its bytes, and its place in them.
-fn add(bytes: &mut Vec<u8>, places: &mut Vec<Place>, packet: &Captured) -> Result<(), AllocError>
+// Adds a packet behind the others: its record, and the place of that.
+fn add(
+    bytes: &mut Vec<u8>,
+    places: &mut Vec<Place>,
+    marks: Marks,
+    more: &[u8],
+) -> Result<(), AllocError>
     requires few { length places.old.items < MOST_PACKETS }
     requires places { ArePlaces bytes.old.items places.old.items }
-    ensures packets { OnOk result (captured_in bytes.new.items places.new.items ≡ captured_in bytes.old.items places.old.items ++ packet.now ∷ []) }
+    ensures packets { OnOk result (captured_in false bytes.new.items places.new.items ≡ captured_in false bytes.old.items places.old.items ++ captured_with marks more.now ∷ []) }
     ensures places { OnOk result (ArePlaces bytes.new.items places.new.items) }
 {
-    let more = packet.bytes.as_slice();
-    let Ok(start) = u32::try_from(bytes.len()) else {
+    let Ok(at) = u32::try_from(bytes.len()) else {
         return Err(AllocError);
     };
     let Ok(len) = u32::try_from(more.len()) else {
         return Err(AllocError);
     };
+    let head = head(marks, len);
+    bytes.extend_from_slice(&head)?;
     bytes.extend_from_slice(more)?;
-    places.push(Place {
-        start,
-        len,
-        marks: Marks {
-            seconds: packet.seconds,
-            fraction: packet.fraction,
-            original: packet.original,
-        },
-    })?;
+    places.push(Place { at, len })?;
     Ok(())
 }
 

@@ -6,6 +6,7 @@ pub mod errors;
 pub mod laws;
 mod layout;
 mod reading;
+mod records;
 pub mod times;
 mod writing;
 

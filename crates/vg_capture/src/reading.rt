@@ -1,9 +1,9 @@
 //! Reading a savefile.
 ghost use Rattle.std.specs.Prelude.{◌≡◌, ◌+◌, ◌≤◌, Err, Ok, IfOk, MatchResult, drop, length};
 ghost use Rattle.vg_capture.specs.Places.{ArePlaces, captured_in};
-ghost use Rattle.vg_capture.specs.Savefile.{AnswersRead, IsUnlessMemory, unit_of, number16, number32, capture_in, records_of};
+ghost use Rattle.vg_capture.specs.Savefile.{AnswersRead, IsOrder, IsUnlessMemory, unit_of, number16, number32, capture_in, records_of};
 
-use crate::captures::{Capture, MOST_PACKETS, Marks, Packets, Place};
+use crate::captures::{Capture, MOST_PACKETS, Packets, Place};
 use crate::errors::CaptureError;
 use crate::layout::{
     FILE_HEADER_LEN, LARGEST_FILE, LINKTYPE_ETHERNET, LONGEST_RECORD, MAGIC_LEN, MAJOR_VERSION,
@@ -34,10 +34,10 @@ pub fn read_capture(alloc: Global, file: Bytes) -> Result<Capture, CaptureError>
     let little = nanos_of(LittleEndian::read_u32(bytes));
     let big = nanos_of(BigEndian::read_u32(bytes));
     if let Some(nanos) = little {
-        return read_in_order::<LittleEndian>(alloc, nanos, file);
+        return read_in_order::<LittleEndian>(alloc, false, nanos, file);
     }
     if let Some(nanos) = big {
-        return read_in_order::<BigEndian>(alloc, nanos, file);
+        return read_in_order::<BigEndian>(alloc, true, nanos, file);
     }
     Err(CaptureError::NotPcap)
 }
@@ -72,10 +72,12 @@ fn u32_at<T: ByteOrder>(bytes: &[u8], place: usize) -> u32
 /// The capture of a file in this byte order.
 fn read_in_order<T: ByteOrder>(
     alloc: Global,
+    big: bool,
     nanos: bool,
     file: Bytes,
 ) -> Result<Capture, CaptureError>
-    requires { length file ≤ LARGEST_FILE }
+    requires order { IsOrder big T.number_of }
+    requires small { length file ≤ LARGEST_FILE }
     ensures { IsUnlessMemory (capture_in T.number_of nanos file) result }
 {
     let bytes = file.as_slice();
@@ -94,26 +96,36 @@ fn read_in_order<T: ByteOrder>(
     Ok(Capture {
         nanos,
         snaplen: u32_at::<T>(bytes, 16),
-        packets: read_records::<T>(alloc, file)?,
+        packets: read_records::<T>(alloc, big, file)?,
     })
 }
 
 /// The packets of the records that stand behind the file's header.
-fn read_records<T: ByteOrder>(alloc: Global, file: Bytes) -> Result<Packets, CaptureError>
+fn read_records<T: ByteOrder>(
+    alloc: Global,
+    big: bool,
+    file: Bytes,
+) -> Result<Packets, CaptureError>
+    requires order { IsOrder big T.number_of }
     requires header { FILE_HEADER_LEN ≤ length file }
     requires small { length file ≤ LARGEST_FILE }
     ensures { IsUnlessMemory (records_of T.number_of (drop FILE_HEADER_LEN file)) result }
 {
-    let places = read_places::<T>(alloc, file.as_slice())?;
-    Ok(Packets::from_places(file, places))
+    let places = read_places::<T>(alloc, big, file.as_slice())?;
+    Ok(Packets::from_places(file, big, places))
 }
 
-/// Where in a file the packets of its records stand.
-fn read_places<T: ByteOrder>(alloc: Global, file: &[u8]) -> Result<Vec<Place>, CaptureError>
+/// Where in a file its records stand.
+fn read_places<T: ByteOrder>(
+    alloc: Global,
+    big: bool,
+    file: &[u8],
+) -> Result<Vec<Place>, CaptureError>
+    requires order { IsOrder big T.number_of }
     requires header { FILE_HEADER_LEN ≤ length file.now }
     requires small { length file.now ≤ LARGEST_FILE }
     ensures read { MatchResult result
-        (λ places. records_of T.number_of (drop FILE_HEADER_LEN file.now) ≡ Ok (captured_in file.now places.items))
+        (λ places. records_of T.number_of (drop FILE_HEADER_LEN file.now) ≡ Ok (captured_in big file.now places.items))
         (λ error. IsUnlessMemory (records_of T.number_of (drop FILE_HEADER_LEN file.now)) (Err error)) }
     ensures places { IfOk result (λ places. ArePlaces file.now places.items) }
 {
@@ -142,13 +154,8 @@ fn read_places<T: ByteOrder>(alloc: Global, file: &[u8]) -> Result<Vec<Place>, C
         }
         let (_, others) = body.split_at(len);
         places.push(Place {
-            start: (place + RECORD_HEADER_LEN) as u32,
+            at: offset,
             len: len as u32,
-            marks: Marks {
-                seconds: u32_at::<T>(rest, 0),
-                fraction: u32_at::<T>(rest, 4),
-                original: u32_at::<T>(rest, 12),
-            },
         })?;
         place += RECORD_HEADER_LEN + len;
         rest = others;

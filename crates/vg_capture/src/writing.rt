@@ -1,13 +1,13 @@
 //! Writing a savefile.
 ghost use Rattle.std.specs.Prelude.{◌≡◌, ◌++◌, ◌<◌, ◌^◌, OnOk, IfOk, length};
-ghost use Rattle.vg_capture.specs.Places.{head_of};
 ghost use Rattle.vg_capture.specs.Savefile.{AreWithin, file_header, pairs, savefile, sent_in};
 
-use crate::captures::{Capture, Marks, Sent};
+use crate::captures::{Capture, Sent};
 use crate::layout::{
     FILE_HEADER_LEN, LINKTYPE_ETHERNET, MAJOR_VERSION, MICROSECONDS_MAGIC, MINOR_VERSION,
     NANOSECONDS_MAGIC, RECORD_HEADER_LEN,
 };
+use crate::records::head;
 use byteorder::{LittleEndian, WriteBytesExt};
 use std::alloc::{AllocError, Global};
 use std::io;
@@ -127,34 +127,6 @@ fn put_header(out: &mut Vec<u8>, capture: &Capture) -> io::Result<()>
     out.write_u32::<LittleEndian>(0)?;
     out.write_u32::<LittleEndian>(capture.snaplen)?;
     out.write_u32::<LittleEndian>(LINKTYPE_ETHERNET)
-}
-
-/// The header of a record with so many bytes.
-fn head(marks: Marks, len: u32) -> [u8; RECORD_HEADER_LEN]
-    ensures { result ≡ head_of marks len }
-{
-    let seconds = marks.seconds.to_le_bytes();
-    let fraction = marks.fraction.to_le_bytes();
-    let captured = len.to_le_bytes();
-    let original = marks.original.to_le_bytes();
-    [
-        seconds[0],
-        seconds[1],
-        seconds[2],
-        seconds[3],
-        fraction[0],
-        fraction[1],
-        fraction[2],
-        fraction[3],
-        captured[0],
-        captured[1],
-        captured[2],
-        captured[3],
-        original[0],
-        original[1],
-        original[2],
-        original[3],
-    ]
 }
 
 /// Appends a record: its header, and then its bytes.

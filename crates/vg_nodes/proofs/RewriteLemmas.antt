@@ -1,7 +1,9 @@
 -- A frame whose headers are written anew part by part: the two addresses, and then the IPv4 header.
-use Rattle.std.proofs.Common.{◌≡◌, ◌≢◌, ℕ, ◌-◌, ◌≤◌, true, List, length, take, drop, ap, ◌∙◌, arith, length-drop}
+use Rattle.std.proofs.Common.{◌≡◌, ◌≢◌, ℕ, ◌+◌, ◌-◌, ◌≤◌, true, List, ◌++◌, length, take, drop, sym, ap, subst, ◌∙◌, arith, append_assoc, length-drop, length-take-le}
 use Rattle.std.specs.Prelude.{None}
 use Rattle.std.proofs.lemmas.Bool.{ne_eqb}
+use Rattle.std.proofs.lemmas.List.{drop-drop, take-append-drop, take-append-le, drop-append-le}
+use Rattle.std.proofs.Math.Seq.{take-append-add, drop-append-add}
 use Rattle.vg_model.specs.declared.kinds.Adjacency.{Adjacency}
 use Rattle.vg_model.specs.declared.kinds.Interface.{Interface}
 use Rattle.vg_model.specs.Bytes.{overwritten}
@@ -95,3 +97,43 @@ rewritten_at_last adjacency interface b first second last is e e2 e3 =
     let both : second ≡ put (overwritten (overwritten b.packet.bytes 0 adjacency.mac.0) 6 interface.mac.0) =
     e2 ∙ ap over_second e in
     e3 ∙ (ap lower both ∙ ap put (rewritten_in_parts adjacency interface b.packet.bytes is.neighbor.six is.own.six (sound_of adjacency interface b.packet is)))
+
+-- bytes that are written within a part
+overwritten_within : (a h b w : List ℕ) (k : ℕ) → k + length w ≤ length h → overwritten (a ++ (h ++ b)) (length a + k) w ≡ a ++ (overwritten h k w ++ b)
+overwritten_within a h b w k fits =
+    let front : take (length a + k) (a ++ (h ++ b)) ≡ a ++ take k h = take-append-add a (h ++ b) k ∙ ap (λ x. a ++ x) (take-append-le k h b (omega (arith, fits))) in
+    let past : length a + k + length w ≡ length a + (k + length w) = omega arith in
+    let back : drop (length a + k + length w) (a ++ (h ++ b)) ≡ drop (k + length w) h ++ b =
+    ap (λ n. drop n (a ++ (h ++ b))) past ∙ drop-append-add a (h ++ b) (k + length w) ∙ drop-append-le (k + length w) h b fits in
+    ap (λ x. (x ++ w) ++ drop (length a + k + length w) (a ++ (h ++ b))) front ∙ ap (λ x. ((a ++ take k h) ++ w) ++ x) back ∙ joined a (take k h) w (drop (k + length w) h) b
+  where
+    joined : (a f w d b : List ℕ) → ((a ++ f) ++ w) ++ (d ++ b) ≡ a ++ (((f ++ w) ++ d) ++ b)
+    joined a f w d b = simp append_assoc
+
+-- the header is lowered by writing the bytes of it that change
+pub lowered_in_place : (f w : List ℕ) → header_fault (drop 14 f) ≡ None → length w ≡ 4
+    → overwritten (take (header_len (drop 14 f)) (drop 14 f)) 8 w ≡ lowered (take (header_len (drop 14 f)) (drop 14 f)) → overwritten f 22 w ≡ with_lowered f
+lowered_in_place f w sound four is =
+    let passes : Passes (drop 14 f) = passes_of (drop 14 f) sound in
+    let n = header_len (drop 14 f) in
+    let a : List ℕ = take 14 f in
+    let h : List ℕ = take n (drop 14 f) in
+    let b : List ℕ = drop n (drop 14 f) in
+    let long = long_enough f sound in
+    let size_a : length a ≡ 14 = length-take-le 14 f (omega (arith, long)) in
+    let size_h : length h ≡ n = length-take-le n (drop 14 f) passes.inside in
+    let parts : a ++ (h ++ b) ≡ f = ap (λ d. a ++ d) (take-append-drop n (drop 14 f)) ∙ take-append-drop 14 f in
+    let fits : 8 + length w ≤ length h = omega (arith, four, size_h, passes.header) in
+    let low : length (lowered h) ≡ n = ap length (sym is) ∙ length-overwritten h 8 w fits ∙ size_h in
+    let at : length a + 8 ≡ 22 = omega (arith, size_a) in
+    let rest : drop (14 + length (lowered h)) f ≡ b = ap (λ k. drop (14 + k) f) low ∙ sym (drop-drop n 14 f) in
+    ap (λ xs. overwritten xs 22 w) (sym parts) ∙ ap (λ k. overwritten (a ++ (h ++ b)) k w) (sym at) ∙ overwritten_within a h b w 8 fits
+    ∙ ap (λ x. a ++ (x ++ b)) is ∙ sym (append_assoc a (lowered h) b) ∙ ap (λ x. (a ++ lowered h) ++ x) (sym rest)
+
+-- the same, where the header was read of equal bytes
+pub lowered_there : (f bytes d w : List ℕ) (n : ℕ) → header_fault (drop 14 f) ≡ None → bytes ≡ f → d ≡ drop 14 bytes → n ≡ header_len d → length w ≡ 4
+    → overwritten (take n d) 8 w ≡ lowered (take n d) → overwritten f 22 w ≡ with_lowered f
+lowered_there f bytes d w n sound same at size four is =
+    let behind : d ≡ drop 14 f = at ∙ ap (drop 14) same in
+    let part : take n d ≡ take (header_len (drop 14 f)) (drop 14 f) = ap (λ k. take k d) size ∙ ap (λ e. take (header_len e) e) behind in
+    lowered_in_place f w sound four (subst (λ h. overwritten h 8 w ≡ lowered h) part is)

@@ -15,7 +15,7 @@ use vg_packet::headers::{
     ETHERNET_LEN, ETHERTYPE, ETHERTYPE_IPV4, datagram, destination, header_fault, header_len,
     is_foreign, time_to_live, total_len,
 };
-use vg_packet::{flow_hash, lower_ttl, u16_at};
+use vg_packet::{TIME_TO_LIVE, flow_hash, lowered_ttl, u16_at};
 use vg_pool::Buffer;
 
 /// The interface that packets come in on, and leave on where none is chosen.
@@ -23,9 +23,6 @@ const FIRST_INTERFACE: u16 = 0;
 
 /// The step over the one slot of a node.
 const NEXT: Step = Step::Next { slot: 0 };
-
-/// The most bytes of an IPv4 header (RFC 791, section 3.1).
-const LONGEST_HEADER: usize = 60;
 
 /// The Ethernet and IPv4 kinds, with `Pass`, the handoffs and the node that drops.
 #[derive(Clone, Copy, Debug, PartialEq, Eq)]
@@ -174,7 +171,7 @@ fn rewrite(buffer: &mut Buffer, adjacency: &Adjacency, interface: &Interface)
     lower_header(buffer);
 }
 
-// Lowers the time to live of the IPv4 header. No more than the header is copied.
+// Lowers the time to live of the IPv4 header. No more than the bytes that change are written, at once with the one between them.
 fn lower_header(buffer: &mut Buffer)
     requires passes { Passes buffer.old.packet }
     requires sound { let d = visits.datagram buffer.old.packet in
@@ -183,12 +180,8 @@ fn lower_header(buffer: &mut Buffer)
         buffer.new ≡ record buffer.old { packet = written buffer.old.packet visits.ethernet_len (lowered (take (visits.header_len d) d)) } }
 {
     let datagram = datagram(buffer.bytes());
-    let len = header_len(datagram);
-    let mut header = [0; LONGEST_HEADER];
-    let header = &mut header[..len];
-    header.copy_from_slice(&datagram[..len]);
-    lower_ttl(header);
-    buffer.write(ETHERNET_LEN as u32, header);
+    let lowered = lowered_ttl(&datagram[..header_len(datagram)]);
+    buffer.write((ETHERNET_LEN + TIME_TO_LIVE) as u32, &lowered);
 }
 
 // The interface that the packet is transmitted on: its own, where the graph has it, or else the first.

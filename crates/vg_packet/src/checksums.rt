@@ -1,5 +1,6 @@
 //! The checksum of an IPv4 header (RFC 791, section 3.1; RFC 1071), and its update (RFC 1624).
 ghost use Rattle.std.specs.Prelude.{◌≡◌, ◌≢◌, ◌+◌, ◌-◌, ◌≤◌, ◌%◌, length, slice_index, slice_set, IsTrue};
+ghost use Rattle.vg_model.specs.Bytes.{overwritten};
 ghost use Rattle.vg_model.specs.Header.{header_sum, verifies, checksum as checksum_of, folded as folded_sum, lowered};
 ghost use Rattle.vg_packet.specs.Update.{updated};
 
@@ -7,7 +8,10 @@ use crate::fields::u16_at;
 use byteorder::{BigEndian, ByteOrder};
 
 /// Where the time to live stands in a header. The protocol is the other byte of its word.
-const TIME_TO_LIVE: usize = 8;
+pub const TIME_TO_LIVE: usize = 8;
+
+/// Where the protocol stands in a header.
+const PROTOCOL: usize = 9;
 
 /// Where the checksum stands in a header.
 const CHECKSUM: usize = 10;
@@ -40,6 +44,19 @@ pub fn lower_ttl(header: &mut [u8])
     let checksum = lowered_checksum(header);
     header[TIME_TO_LIVE] -= 1;
     BigEndian::write_u16(&mut header[CHECKSUM..], checksum);
+}
+
+/// The bytes of a header that change as its time to live is lowered by one, with the protocol between them: four bytes from byte 8
+/// on, as [`lower_ttl`] leaves them. `header` is as there.
+pub fn lowered_ttl(header: &[u8]) -> [u8; 4]
+    requires least { 20 ≤ length header.now }
+    requires verified { IsTrue (verifies header.now) }
+    requires versioned { slice_index header.now 0 ≢ 0 }
+    requires alive { 1 ≤ slice_index header.now 8 }
+    ensures { overwritten header.now 8 result ≡ lowered header.now }
+{
+    let [high, low] = lowered_checksum(header).to_be_bytes();
+    [header[TIME_TO_LIVE] - 1, header[PROTOCOL], high, low]
 }
 
 /// The checksum that a header has once its time to live is lowered by one.

@@ -3,7 +3,7 @@ ghost use Rattle.std.specs.Prelude.{◌≡◌, ◌≤◌, drop, length};
 ghost use Rattle.vg_model.specs.Visit as visits;
 ghost use Rattle.vg_model.specs.Visit.{ethernet_len};
 
-use crate::checksums::{lower_ttl, verify_header};
+use crate::checksums::{TIME_TO_LIVE, lower_ttl, verify_header};
 use crate::fields::{u16_at, u32_at};
 use vg_model::{Adjacency, DropError, Interface};
 
@@ -21,9 +21,6 @@ const LEAST_HEADER: usize = 20;
 
 /// Where the total length stands in an IPv4 header.
 const TOTAL_LENGTH: usize = 2;
-
-/// Where the time to live stands in an IPv4 header.
-const TIME_TO_LIVE: usize = 8;
 
 /// Where the destination stands in an IPv4 header.
 const DESTINATION: usize = 16;

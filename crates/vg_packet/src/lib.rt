@@ -9,6 +9,6 @@ mod hashes;
 pub mod headers;
 pub mod laws;
 
-pub use checksums::{lower_ttl, verify_header};
+pub use checksums::{TIME_TO_LIVE, lower_ttl, lowered_ttl, verify_header};
 pub use fields::{u16_at, u32_at};
 pub use hashes::flow_hash;

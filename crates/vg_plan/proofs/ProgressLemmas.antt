@@ -1,5 +1,5 @@
 -- How far a script's generations are made.
-use Rattle.std.proofs.Common.{◌≡◌, ℕ, inl, inr, List, [], ◌∷◌, ◌++◌, refl, sym, ap, subst, ◌∙◌}
+use Rattle.std.proofs.Common.{◌≡◌, ℕ, inl, inr, List, [], ◌∷◌, ◌++◌, map, refl, sym, ap, subst, ◌∙◌}
 use Rattle.std.specs.Prelude.{Ok, Err}
 use Rattle.std.specs.List.{AllByRecursion}
 use Rattle.vg_model.specs.declared.edits.EditLine.{EditLine}
@@ -10,10 +10,11 @@ use Rattle.vg_model.specs.Generations.{Graphs, in_front, after_groups, generatio
 use Rattle.vg_graph.proofs.ListLemmas.{all_append}
 use Rattle.vg_script.specs.declared.scripts.Script.{Script}
 use Rattle.vg_script.specs.declared.errors.ScriptError.{ScriptError}
+use Rattle.vg_script.specs.Events.{Event, events}
 use Rattle.vg_script.specs.Generations.{generations_of}
 use Rattle.vg_script.specs.Lawful.{IsLawful}
 use Rattle.vg_plan.specs.Plan.{graphs_of, IsGeneration, IsPlan}
-use Rattle.vg_plan.specs.Progress.{behind, AreMadeUpTo}
+use Rattle.vg_plan.specs.Progress.{behind, AreMade, AreMadeUpTo}
 use Rattle.vg_plan.specs.Refusals.{IsRefusalOf}
 
 -- one graph more stands behind others
@@ -30,9 +31,9 @@ behind_all : (front rest : List Graph) → behind front (Ok rest) ≡ Ok (front 
 behind_all [] rest = refl
 behind_all (f ∷ front) rest = ap (in_front f) (behind_all front rest)
 
--- generation 0 is made, and all groups are left
-pub made_first : (start : List EditLine) (groups : List (List EditLine)) (g : Graph) → apply_all start_graph start ≡ Ok g → IsGeneration g → AreMadeUpTo (generations start groups) g groups
-made_first start groups g e is = record { front = []; generations = tt; last = is; is = ap (λ r. after_groups r groups) e }
+-- the first graph is made, and all groups are left
+pub made_first : (g : Graph) (groups : List (List EditLine)) → IsGeneration g → AreMadeUpTo (after_groups (Ok g) groups) g groups
+made_first g groups is = record { front = []; generations = tt; last = is; is = refl }
 
 -- one group more
 pub made_next : (all : Graphs) (g after : Graph) (edits : List EditLine) (groups : List (List EditLine)) → AreMadeUpTo all g (edits ∷ groups) → apply_all g edits ≡ Ok after → IsGeneration after
@@ -57,15 +58,24 @@ first_refused start groups error (inl memory) = inl memory
 first_refused start groups error (inr h) = inr (h.0, ap (λ r. after_groups r groups) h.1, h.2)
 
 -- no group is left
-pub all_are_made : (script : Script) (g : Graph) → IsLawful script → AreMadeUpTo (generations_of script) g [] → IsPlan (record { script = script; graphs = graphs_of script })
-all_are_made script g lawful made = record {
+pub all_are_made : (all : Graphs) (g : Graph) → AreMadeUpTo all g [] → AreMade all
+all_are_made all g made = record {
+  graphs = made.front ++ g ∷ [];
+  generations = all_append IsGeneration made.front g made.generations made.last;
+  is = made.is ∙ behind_all made.front (g ∷ []);
+}
+
+-- the edits outside blocks make this graph, and those of the events all others: the script has a plan
+pub is_planned : (script : Script) (g : Graph) → IsLawful script → apply_all start_graph script.start ≡ Ok g
+    → AreMade (after_groups (Ok g) (map (λ (e : Event). e.edits) (events script))) → IsPlan (record { script = script; graphs = graphs_of script })
+is_planned script g lawful first made = record {
   lawful = lawful;
   made = are ∙ ap Ok (sym same);
-  generations = subst (AllByRecursion IsGeneration) (sym same) (all_append IsGeneration made.front g made.generations made.last);
+  generations = subst (AllByRecursion IsGeneration) (sym same) made.generations;
 }
   where
-    are : generations_of script ≡ Ok (made.front ++ g ∷ [])
-    are = made.is ∙ behind_all made.front (g ∷ [])
+    are : generations_of script ≡ Ok made.graphs
+    are = ap (λ r. after_groups r (map (λ (e : Event). e.edits) (events script))) first ∙ made.is
 
-    same : graphs_of script ≡ made.front ++ g ∷ []
+    same : graphs_of script ≡ made.graphs
     same = ap (λ (r : Graphs). elim r as (λ _. List Graph) [ Ok graphs ↦ graphs | Err refusal ↦ [] ]) are

@@ -13,7 +13,7 @@ use Rattle.vg_script.specs.declared.scripts.Script.{Script}
 use Rattle.vg_script.specs.Events.{Event, comes_before, events_of, group_of, events, runs as script_runs}
 use Rattle.vg_script.specs.Lawful.{IsLawful}
 use Rattle.vg_plan.specs.declared.events.Run.{Run}
-use Rattle.vg_plan.specs.Run.{seen}
+use Rattle.vg_plan.specs.Run.{seen, groups_of}
 use Rattle.vg_script.proofs.EventLemmas.{order_is_unique}
 
 -- one run more
@@ -84,10 +84,6 @@ pushed_run first runs after line every k time groups run so_far is same_time at 
     ∙ (ap₂ (λ front e. front ++ e ∷ []) so_far last
     ∙ (append_assoc first (script_runs line every k groups) (record { time = (k + 1) * every; line = line; occurrence = k + 1; edits = group_of groups (k + 1) } ∷ [])
     ∙ ap (λ rest. first ++ rest) (sym (one_run_more line every groups k)))))
-
--- the edits of runs, one group after the other
-abbrev pub groups_of : List Run → List (List EditLine)
-groups_of runs = map (λ (e : Event). e.edits) (map seen runs)
 
 -- those of the run at a place come before those of the runs behind it
 pub next_group : (runs : List Run) (i : ℕ) (run : Run) → i < length runs → run ≡ get_or runs i run → drop i (groups_of runs) ≡ run.edits.now ∷ drop (i + 1) (groups_of runs)

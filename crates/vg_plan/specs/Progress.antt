@@ -18,3 +18,9 @@ pub record AreMadeUpTo (all : Graphs) (g : Graph) (groups : List (List EditLine)
   pub generations : AllByRecursion IsGeneration front
   pub last : IsGeneration g
   pub is : all ≡ behind front (after_groups (Ok g) groups)
+
+-- all graphs are made
+pub record AreMade (all : Graphs) : Type 0 where
+  pub graphs : List Graph
+  pub generations : AllByRecursion IsGeneration graphs
+  pub is : all ≡ Ok graphs

@@ -87,12 +87,7 @@ impl Master {
     pub fn new(alloc: Global, plan: &Plan) -> Result<Master, Memory>
         ensures { IfOk result (λ master. slice_get plan.now.graphs 0 ≡ Some master) }
     {
-        let mut master = Master::start(alloc)?;
-        match master.make(&plan.script().start) {
-            Ok(()) => Ok(master),
-            // The plan made these edits before: only memory can be wanting.
-            Err(_) => Err(Memory),
-        }
+        plan.first().copy(alloc, None)
     }
 
     // The graph that a run starts from, without routes.
@@ -122,12 +117,11 @@ impl Master {
         &self.fib
     }
 
-    // An equal master, in the spare memory as far as there is any.
-    fn copy(&mut self, alloc: Global) -> Result<Master, Memory>
-        ensures copy { IfOk result (λ copy. copy ≡ self.old) }
-        ensures same { self.new ≡ self.old }
+    // An equal master. Its table is made in the memory of another one where there is one.
+    pub(crate) fn copy(&self, alloc: Global, spare: Option<Fib>) -> Result<Master, Memory>
+        ensures { IfOk result (λ copy. copy ≡ self.now) }
     {
-        let fib = match self.spare.take() {
+        let fib = match spare {
             Some(spare) => spare.renewed(&self.fib)?,
             None => self.fib.copy()?,
         };
@@ -150,7 +144,8 @@ impl Master {
         ensures refused { IfErr result (IsRefusalOf (apply_all self.old edits.now)) }
         ensures same { OnErr result (self.new ≡ self.old) }
     {
-        let Ok(mut after) = self.copy(alloc) else {
+        let spare = self.spare.take();
+        let Ok(mut after) = self.copy(alloc, spare) else {
             return Err(out_of_memory());
         };
         after.make(edits)?;

@@ -1,14 +1,17 @@
 //! Plans: the generations of a script, and when each begins.
-ghost use Rattle.std.specs.Prelude.{◌≡◌, ◌+◌, ◌<◌, ◌≤◌, IfOk, IfErr, OnOk, Ok, length, vec_len};
+ghost use Rattle.std.specs.Prelude.{◌≡◌, ◌+◌, ◌<◌, ◌≤◌, IfOk, IfErr, OnOk, Ok, Some, length, slice_get, vec_len};
+ghost use Rattle.vg_model.specs.Generations.{after_groups};
 ghost use Rattle.vg_script.specs.Events.{events, generation_at};
 ghost use Rattle.vg_script.specs.Generations.{generations_of};
 ghost use Rattle.vg_script.specs.Lawful.{IsLawful};
-ghost use Rattle.vg_plan.specs.Plan.{graphs_of, limit_of, limits_of, windows, IsPlan};
+ghost use Rattle.vg_plan.specs.Plan.{graphs_of, limit_of, limits_of, windows, IsGeneration, IsPlan};
+ghost use Rattle.vg_plan.specs.Progress.{AreMade};
+ghost use Rattle.vg_plan.specs.Run.{groups_of};
 ghost use Rattle.vg_plan.specs.Times.{AreTimes};
 ghost use Rattle.vg_plan.specs.Refusals.{IsRefusalOf};
 
 use crate::books::Book;
-use crate::events::{in_order, times_of};
+use crate::events::{Run, in_order, times_of};
 use crate::masters::{Master, out_of_memory};
 use crate::windows::{due, front};
 use std::alloc::{AllocError, Global};
@@ -17,12 +20,14 @@ use vg_capture::Capture;
 use vg_model::Memory;
 use vg_script::{Script, ScriptError};
 
-/// The plan of a script: its generations and their times. It keeps no graph.
+/// The plan of a script: its generations and their times. Of the graphs it keeps that of generation 0 alone.
 ///
 /// Times are capture times in microseconds, counted from the first packet.
 #[derive(Drop)]
 pub struct Plan {
     script: Script,
+    // The graph and the routes of generation 0.
+    first: Master,
     // The times of the events, in their order.
     times: Vec<u64>,
 }
@@ -40,7 +45,7 @@ impl Model for Plan {
 }
 
 impl Plan {
-    /// The plan of a script. All generations are made once, one after the other, and none is kept.
+    /// The plan of a script. All generations are made once, one after the other.
     ///
     /// # Errors
     ///
@@ -52,8 +57,19 @@ impl Plan {
         ensures made { IfOk result (λ plan. generations_of script ≡ Ok plan.graphs) }
         ensures refused { IfErr result (IsRefusalOf (generations_of script)) }
     {
-        let times = make_all(alloc, &script)?;
-        Ok(Plan { script, times })
+        let Made { first, times } = make_all(alloc, &script)?;
+        Ok(Plan {
+            script,
+            first,
+            times,
+        })
+    }
+
+    // The graph and the routes of generation 0.
+    pub(crate) fn first(&self) -> &Master
+        ensures { slice_get self.now.graphs 0 ≡ Some result.now }
+    {
+        &self.first
     }
 
     /// The script.
@@ -128,25 +144,49 @@ impl Plan {
     }
 }
 
-// Makes all generations of a script, one after the other, and keeps none; gives the times of its events.
-fn make_all(alloc: Global, script: &Script) -> Result<Vec<u64>, ScriptError>
+// What is kept of all generations: the first, and the times of the events that make the others.
+#[derive(Drop)]
+struct Made {
+    first: Master,
+    times: Vec<u64>,
+}
+
+// Makes all generations of a script, one after the other, and keeps the first.
+fn make_all(alloc: Global, script: &Script) -> Result<Made, ScriptError>
     requires { IsLawful script.now }
     ensures made { OnOk result (IsPlan (record { script = script.now; graphs = graphs_of script.now })) }
-    ensures times { IfOk result (λ times. AreTimes script.now times.items) }
+    ensures first { IfOk result (λ made. slice_get (graphs_of script.now) 0 ≡ Some made.first) }
+    ensures times { IfOk result (λ made. AreTimes script.now made.times.items) }
     ensures refused { IfErr result (IsRefusalOf (generations_of script.now)) }
 {
     let Ok(runs) = in_order(alloc, script) else {
         return Err(out_of_memory());
     };
-    let Ok(mut master) = Master::start(alloc) else {
+    let Ok(mut first) = Master::start(alloc) else {
         return Err(out_of_memory());
     };
-    master.make(&script.start)?;
-    for run in &runs {
-        master.make(run.edits)?;
-    }
+    first.make(&script.start)?;
+    make_events(alloc, &first, runs.as_slice())?;
     match times_of(alloc, &runs) {
-        Ok(times) => Ok(times),
+        Ok(times) => Ok(Made { first, times }),
         Err(_) => Err(out_of_memory()),
     }
+}
+
+// Makes the generations of these events behind the first, one after the other, and keeps none.
+fn make_events(alloc: Global, first: &Master, runs: &[Run<'_>]) -> Result<(), ScriptError>
+    requires { IsGeneration first.now }
+    ensures made { OnOk result (AreMade (after_groups (Ok first.now) (groups_of runs.now))) }
+    ensures refused { IfErr result (IsRefusalOf (after_groups (Ok first.now) (groups_of runs.now))) }
+{
+    if runs.is_empty() {
+        return Ok(());
+    }
+    let Ok(mut master) = first.copy(alloc, None) else {
+        return Err(out_of_memory());
+    };
+    for run in runs {
+        master.make(run.edits)?;
+    }
+    Ok(())
 }

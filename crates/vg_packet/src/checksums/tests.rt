@@ -1,5 +1,5 @@
 //! Headers whose checksums are known.
-use super::{lower_ttl, ones_complement_sum, updated_checksum, verify_header};
+use super::{lower_ttl, lowered_ttl, ones_complement_sum, updated_checksum, verify_header};
 use crate::laws;
 use std::process::Abort;
 
@@ -35,6 +35,7 @@ fn header(identification: u16, time_to_live: u8, checksum: u16) -> [u8; 20] {
 fn assert_lowered(rt: &impl Abort, mut header: [u8; 20], after: [u8; 20]) {
     assert!(rt; verify_header(&header), "{header:?}");
     assert!(rt; header[0] != 0 && header[8] >= 1, "{header:?}");
+    assert!(rt; lowered_ttl(&header) == after[8..12]);
     lower_ttl(&mut header);
     assert_eq!(rt; header, after);
 }

@@ -1,11 +1,16 @@
-use Rattle.std.proofs.Common.{◌≡◌, ◌++◌, length, rules, refl}
+use Rattle.std.proofs.Common.{◌≡◌, ◌++◌, ◌<◌, ◌^◌, length, rules, refl}
+use Rattle.vg_capture.specs.Places.{head_of}
 use Rattle.vg_capture.proofs.PlaceLemmas.{packet_more}
 use Rattle.vg_capture.proofs.captures.add.Goals as goal
 
 pub returns-clause-packets : goal.returns-clause-packets
 returns-clause-packets c =
-    let start : c.in-Ok.start ≡ length c.args.bytes.now.items = search rules in
-    let size : c.in-Ok-try_from.len ≡ length c.as_slice-more.result.now = search rules in
-    let longer : c.extend_from_slice.new.self.items ≡ c.args.bytes.now.items ++ c.as_slice-more.result.now = search rules in
-    (packet_more c.args.bytes.now.items c.as_slice-more.result.now c.extend_from_slice.new.self.items c.args.places.now.items c.push.new.self.items _ c.args.packet.now
-    c.requires.places c.requires.few start size c.as_slice-more.ensures refl refl refl longer c.in_ok-push.ensures.items).0
+    let seconds : c.args.marks.seconds < 2 ^ 32 = search rules in
+    let fraction : c.args.marks.fraction < 2 ^ 32 = search rules in
+    let original : c.args.marks.original < 2 ^ 32 = search rules in
+    let start : c.in-Ok.at ≡ length c.args.bytes.now.items = search rules in
+    let size : c.in-Ok-try_from.len ≡ length c.args.more.now = search rules in
+    let first : c.extend_from_slice.new.self.items ≡ c.args.bytes.now.items ++ c.head-head.result = search rules in
+    let second : c.extend_from_slice-2.new.self.items ≡ c.extend_from_slice.new.self.items ++ c.args.more.now = search rules in
+    (packet_more c.args.bytes.now.items c.head-head.result c.args.more.now c.extend_from_slice.new.self.items c.extend_from_slice-2.new.self.items c.args.places.now.items c.push.new.self.items
+    c.args.marks c.in-Ok-try_from.len _ c.requires.places c.requires.few seconds fraction original start size c.head-head.ensures first second c.in_ok-push.ensures.items).0
