@@ -1,5 +1,8 @@
 //! What a worker passes at the beginning of a turn.
 
+use std::hint;
+use std::sync::atomic::{AtomicU64, Ordering};
+
 /// What a worker passes at the beginning of each turn, so that a test can hold it there. Contracts give it no meaning.
 ///
 /// A gate is shared by all workers, which may run in threads of their own.
@@ -17,9 +20,78 @@ impl Gate for OpenGate {
     fn enter(&self, _worker: u8, _turn: u64) {}
 }
 
+/// How many times a held worker looks for the other one before it is let in alone.
+const LOOKS: u32 = 100_000_000;
+
+/// A gate at which worker 0 and worker 1 wait for each other in their first turns. It shows that the two run at once: in one
+/// thread neither could wait for the other.
+///
+/// Each turn 0 of either is held until the other has entered a turn 0 as often, and is let in alone after 100,000,000 looks, so
+/// that no run waits without end. All other turns, and all other workers, are let in at once.
+#[derive(Drop)]
+pub struct MeetGate {
+    /// How many turns 0 worker 0 has entered.
+    zero: AtomicU64,
+    /// How many turns 0 worker 1 has entered.
+    one: AtomicU64,
+    met: AtomicU64,
+    given_up: AtomicU64,
+}
+
+/// Whether a worker is seen to have entered so often, within the looks that a hold has.
+fn has_come(entered: &AtomicU64, times: u64) -> bool {
+    for _ in 0..LOOKS {
+        if entered.load(Ordering::SeqCst) >= times {
+            return true;
+        }
+        hint::spin_loop();
+    }
+    false
+}
+
+impl MeetGate {
+    /// A gate that nobody has entered.
+    pub fn new() -> MeetGate {
+        MeetGate {
+            zero: AtomicU64::new(0),
+            one: AtomicU64::new(0),
+            met: AtomicU64::new(0),
+            given_up: AtomicU64::new(0),
+        }
+    }
+
+    /// How many holds ended because the other worker had entered as often.
+    pub fn met(&self) -> u64 {
+        self.met.load(Ordering::SeqCst)
+    }
+
+    /// How many holds were given up.
+    pub fn given_up(&self) -> u64 {
+        self.given_up.load(Ordering::SeqCst)
+    }
+}
+
+impl Gate for MeetGate {
+    fn enter(&self, worker: u8, turn: u64) {
+        let (own, other) = match (worker, turn) {
+            (0, 0) => (&self.zero, &self.one),
+            (1, 0) => (&self.one, &self.zero),
+            _ => return,
+        };
+        let times = own.fetch_add(1, Ordering::SeqCst).saturating_add(1);
+        let ended = if has_come(other, times) {
+            &self.met
+        } else {
+            &self.given_up
+        };
+        ended.fetch_add(1, Ordering::SeqCst);
+    }
+}
+
 #[cfg(test)]
 mod tests {
-    use super::{Gate, OpenGate};
+    use super::{Gate, MeetGate, OpenGate};
+    use std::thread;
 
     fn enter<G: Gate>(gate: &G, worker: u8, turn: u64) {
         gate.enter(worker, turn);
@@ -28,5 +100,44 @@ mod tests {
     #[test]
     fn an_open_gate_lets_a_worker_in(_rt: HostRuntime) {
         enter(&OpenGate, 7, 1 << 62);
+    }
+
+    // Two runs over one gate, each with three turns of the worker.
+    fn two_runs(gate: &MeetGate, worker: u8) {
+        for _ in 0..2 {
+            for turn in 0..3 {
+                enter(gate, worker, turn);
+            }
+        }
+    }
+
+    #[test]
+    fn workers_in_two_threads_meet_in_each_turn_0(rt: HostRuntime) {
+        let gate = MeetGate::new();
+        thread::join(&rt, || two_runs(&gate, 0), || two_runs(&gate, 1));
+        assert_eq!(rt; gate.met(), 4);
+        assert_eq!(rt; gate.given_up(), 0);
+    }
+
+    #[test]
+    fn other_turns_and_workers_are_let_in_at_once(rt: HostRuntime) {
+        let gate = MeetGate::new();
+        for (worker, turn) in [(0, 1), (1, 1 << 62), (2, 0), (7, 0)] {
+            enter(&gate, worker, turn);
+        }
+        assert_eq!(rt; gate.met(), 0);
+        assert_eq!(rt; gate.given_up(), 0);
+    }
+
+    // The first worker finds nobody and gives up; the second finds that the first has been there.
+    #[test]
+    fn in_one_thread_the_first_hold_is_given_up(rt: HostRuntime) {
+        let gate = MeetGate::new();
+        enter(&gate, 1, 0);
+        assert_eq!(rt; gate.given_up(), 1);
+        assert_eq!(rt; gate.met(), 0);
+        enter(&gate, 0, 0);
+        assert_eq!(rt; gate.given_up(), 1);
+        assert_eq!(rt; gate.met(), 1);
     }
 }

@@ -2,7 +2,8 @@
 //!
 //! `Folder` and `Sink` are what a run reads and writes through. `MemoryFolder` and `MemorySink` fail
 //! where they are told to, `SureFolder` and `SureSink` at want of memory alone, and `RealFolder` and
-//! `RealSink` stand for the files of the system and its standard output. `OpenGate` lets all workers in.
+//! `RealSink` stand for the files of the system and its standard output. `OpenGate` lets all workers in,
+//! `MeetGate` lets two of them wait for each other.
 #![tactic(auto)]
 
 pub mod calls;
@@ -11,6 +12,7 @@ pub mod folder;
 pub mod gates;
 pub mod memory;
 pub mod real;
+pub mod saving;
 pub mod sink;
 pub mod sure;
 #[cfg(test)]
@@ -19,7 +21,7 @@ mod tests;
 pub use calls::Calls;
 pub use file_map::FileMap;
 pub use folder::{Folder, LoadError};
-pub use gates::{Gate, OpenGate};
+pub use gates::{Gate, MeetGate, OpenGate};
 pub use memory::{MemoryFolder, MemorySink};
 pub use real::{RealFolder, RealSink};
 pub use sink::{Failed, Sink};

@@ -3,9 +3,11 @@ ghost use Rattle.std.specs.Prelude.{◌≡◌, ◌≤◌, ◌<◌, None, length,
 ghost use Rattle.vg_outside.specs.Files.{risen};
 
 use crate::folder::{Folder, LoadError};
+use crate::saving::save_file;
 use crate::sink::{Failed, Sink};
 use std::fs::OpenFile;
 use std::io::{ErrorKind, Read, Write};
+use std::os::fd::AsFd;
 use std::rt::Files;
 use std::{fs, io};
 use vg_model::Bytes;
@@ -13,8 +15,12 @@ use vg_model::Bytes;
 /// The files of the system, by their paths. Contracts know nothing of what they hold. Each `Err`
 /// raises the count of faults, which is one for all names and stays at the greatest `u64`.
 ///
-/// A load reads no more than the bytes that it gives. A save makes a new file or replaces the old
-/// one; where it fails, a front of the bytes may stand there.
+/// A load reads no more than the bytes that it gives.
+///
+/// A save of a regular file, or of one that isn't there yet, leaves it as it was or with all of the new bytes, at every moment: they
+/// are written to a new file in the same folder, `.NAME.vgd-0` or with a higher number, which then takes the name. Where the save
+/// fails the new file is removed; where the process is killed before, it may stay. What is no regular file, as a pipe, is written in
+/// place, and a front of the bytes may be there after a failure.
 #[derive(Drop)]
 pub struct RealFolder<R> {
     rt: R,
@@ -46,7 +52,10 @@ fn read_first<R: Files + AllocGlobal>(rt: &R, name: &str, limit: usize) -> io::R
     Ok(bytes)
 }
 
-impl<R: Files + AllocGlobal> Folder for RealFolder<R> {
+impl<R: Files + AllocGlobal> Folder for RealFolder<R>
+where
+    R::File: AsFd,
+{
     ghost contents = { λ _. None };
 
     ghost faults = { λ folder name. folder.faults };
@@ -72,7 +81,7 @@ impl<R: Files + AllocGlobal> Folder for RealFolder<R> {
         ensures later { self.old.faults ≤ self.new.faults }
         ensures faults { self.new.faults ≡ (if is_ok result then self.old.faults else risen self.old.faults) }
     {
-        if fs::write(&self.rt, name, bytes).is_err() {
+        if save_file(&self.rt, name, bytes).is_err() {
             self.faults = self.faults.saturating_add(1);
             return Err(Failed);
         }
@@ -83,8 +92,8 @@ impl<R: Files + AllocGlobal> Folder for RealFolder<R> {
 /// The standard output. Contracts know nothing of what was written. Each `Err` raises the count of
 /// faults, which stays at the greatest `u64`.
 ///
-/// A call of `put` is one write; one that takes no byte of a piece that has some, or that a signal
-/// interrupts, is `Failed`.
+/// A call of `put` is one write, made again where a signal interrupts it; one that takes no byte of a piece that has some is
+/// `Failed`.
 #[derive(Drop)]
 pub struct RealSink<R> {
     rt: R,
@@ -100,6 +109,19 @@ impl<R> RealSink<R> {
     }
 }
 
+/// One write to the standard output, made again where a signal interrupts it.
+fn write_once<R: Print>(rt: &R, bytes: &[u8]) -> io::Result<usize>
+    ensures { IfOk result (λ n. n ≤ length bytes.now) }
+{
+    for _ in 0..u64::MAX {
+        match io::writer(rt).write(bytes) {
+            Err(e) if e.kind() == ErrorKind::Interrupted => {}
+            written => return written,
+        }
+    }
+    Err(io::Error::from(ErrorKind::Interrupted))
+}
+
 impl<R: Print> Sink for RealSink<R> {
     ghost written = { λ _. None };
 
@@ -111,7 +133,7 @@ impl<R: Print> Sink for RealSink<R> {
         ensures later { self.old.faults ≤ self.new.faults }
         ensures faults { self.new.faults ≡ (if is_ok result then self.old.faults else risen self.old.faults) }
     {
-        match io::writer(&self.rt).write(bytes) {
+        match write_once(&self.rt, bytes) {
             Ok(n) if 0 < n || bytes.is_empty() => Ok(n),
             _ => {
                 self.faults = self.faults.saturating_add(1);

@@ -1,4 +1,8 @@
 //! Folders and sinks, called through their traits.
+
+mod faulty;
+mod saves;
+
 use crate::{
     Failed, Folder, LoadError, MemoryFolder, MemorySink, RealFolder, RealSink, Sink, SureFolder,
     SureSink,
