@@ -1,7 +1,7 @@
 //! Counters by node, error and interface.
 ghost use Rattle.std.specs.Prelude.{◌≡◌, ℕ, ◌+◌, ◌<◌, ◌^◌, length, slice_index, All, IfOk};
 ghost use Rattle.vg_model.specs.Errors.{error_number};
-ghost use Rattle.vg_counters.specs.Tally.{nothing_counted, more_at, drops_at, one_drop_more, AreOneSize, HasRoom, IsTotal, IsSameSize, HasRoomFor, IsSum};
+ghost use Rattle.vg_counters.specs.Tally.{nothing_counted, more_at, drops_at, one_drop_more, AreOneSize, HasRoom, IsTotal, IsSameSize, IsWhole, HasRoomFor, IsSum};
 
 use std::alloc::Global;
 use std::marker::Model;
@@ -45,6 +45,14 @@ impl Counters {
         ensures { IfOk result (λ counters. counters ≡ nothing_counted nodes interfaces) }
     {
         Counters::sized(alloc, nodes as usize, interfaces as usize)
+    }
+
+    /// For how many nodes it counts.
+    pub fn nodes(&self) -> usize
+        ensures count { result ≡ length self.now.visits }
+        ensures kept { IsWhole self.now }
+    {
+        self.visits.len()
     }
 
     /// Counts so many visits of a node.

@@ -109,7 +109,7 @@ none_drawn number workers worker (bytes ∷ packets) h =
         late (inr above) = above
         late (inl below_it) = absurd (let l = ltb-true number worker below_it in let e : number % workers ≡ number = mod-eq_of_lt (omega (arith, l, h)) in omega (arith, l, e, is))
 
-came_none : (run : Run) (traced worker : ℕ) (count : Arrival → ℕ) → worker < run.workers → came run count (begun traced worker) ≡ 0
+pub came_none : (run : Run) (traced worker : ℕ) (count : Arrival → ℕ) → worker < run.workers → came run count (begun traced worker) ≡ 0
 came_none run traced worker count h =
     let drawn = ap (sum_by count) (none_drawn 0 run.workers worker run.packets h) in
     let taken = sum_none (λ from. sum_by count (arrivals_in worker (frames_with from []))) (λ from. refl) (below run.workers) in

@@ -23,3 +23,4 @@ pub mod SameEndLemmas
 pub mod BufferLemmas
 pub mod ArrivalLemmas
 pub mod LegInLemmas
+pub mod BalanceLemmas

@@ -93,7 +93,7 @@ notes_length run at traces some all =
     (subst (λ ws. All (λ (part : Notes). length traces ≡ length part) (map (λ w. (at w).trace) ws)) first.1 all) 0 (at 0).trace (omega arith)
 
 -- what workers have kept, put in order
-outcome_is : (run : Run) (traced : ℕ) (at : ℕ → Account) (fates_by_number : List Fate) (sent_by_number : List (ℕ × List ℕ)) (counts : Tally) (traces : List (List ℕ))
+pub outcome_is : (run : Run) (traced : ℕ) (at : ℕ → Account) (fates_by_number : List Fate) (sent_by_number : List (ℕ × List ℕ)) (counts : Tally) (traces : List (List ℕ))
     → AreKept run traced at → 0 < run.workers → traced ≤ length run.packets → length (at 0).trace ≡ traced → IsGathered run at fates_by_number sent_by_number counts traces
     → IsOutcome run traced fates_by_number sent_by_number counts traces
 outcome_is run traced at fates_by_number sent_by_number counts traces kept some few noted gathered =
@@ -127,6 +127,14 @@ outcome_is run traced at fates_by_number sent_by_number counts traces kept some 
           let low : i < traced = omega (arith, h, long) in
           gathered.merged.nodes i ∙ kept.traces few i low ∙ sym (get_or-take traced (map trace js) i [] low) ∙ ap (λ ts. get_or ts i []) (take-map trace traced js)));
     }
+
+-- it is of the same journeys
+pub outcome_js : (run : Run) (traced : ℕ) (at : ℕ → Account) (fates_by_number : List Fate) (sent_by_number : List (ℕ × List ℕ)) (counts : Tally) (traces : List (List ℕ))
+    (kept : AreKept run traced at) (some : 0 < run.workers) (few : traced ≤ length run.packets) (noted : length (at 0).trace ≡ traced)
+    (gathered : IsGathered run at fates_by_number sent_by_number counts traces)
+    → (outcome_is run traced at fates_by_number sent_by_number counts traces kept some few noted gathered).js ≡ kept.js
+unfolding outcome_is
+outcome_js run traced at fates_by_number sent_by_number counts traces kept some few noted gathered = refl
 
 -- the theorem
 pub run_outcome : (run : Run) (traced : ℕ) (at : ℕ → Account) (rest : ℕ → ℕ → List HandoffFrame) (fates_by_number : List Fate) (sent_by_number : List (ℕ × List ℕ)) (counts : Tally) (traces : List (List ℕ))

@@ -20,6 +20,7 @@ use Rattle.vg_journeys.specs.LegFacts.{HandsOver}
 use Rattle.vg_journeys.specs.Trips.{Run, Arrival, Drawn, Taken, number_of, legs_before, Trip, onward, logged, sent_by_trip, last_visits, trip_visits, noted_of, is_of, IsHandover, IsTrip}
 use Rattle.vg_journeys.specs.Treks.{IsRefusal}
 use Rattle.vg_journeys.specs.Accounts.{Account, frames_with, is_drawn, Adds}
+use Rattle.vg_journeys.specs.Counts.{IsCountIn}
 use Rattle.vg_journeys.specs.Turns.{Settled, settled_onward, settled_log, settled_sent, refusal_visits, settled_visits, MayBeRefused, Place, legs_with, way_at, end_at, visits_at, IsSoundArrival, MayArrive, arrival_is_of, arrival_noted, settled_noted, IsTurn}
 use Rattle.vg_journeys.proofs.JoinLemmas.{sum_both, same_or_not}
 use Rattle.vg_journeys.proofs.NoteLemmas.{none_gives, same_given}
@@ -111,6 +112,7 @@ visits_split way refused = by way.outcome refused ∙ sym (append_assoc way.visi
 pub record IsTripAt (run : Run) (place : Place) (s : Settled) (e : Arrival) (t : Trip) : Type 0 where
   pub trip : IsTrip run t
   pub worker : t.worker ≡ place.worker
+  pub generation : t.generation ≡ place.generation
   pub arrival : t.arrival ≡ e
   pub onward_is : onward t ≡ settled_onward s
   pub logged_is : logged t ≡ settled_log s
@@ -132,6 +134,7 @@ trip_of run place s e kinds valid few some is_graph may is be =
       record {
         trip = is_trip run place e way s.refused kinds valid few some is_graph may may.is_way (subst (λ (ended : Ended). MayBeRefused ended.outcome s.refused) (sym end) be);
         worker = refl;
+        generation = refl;
         arrival = refl;
         onward_is = ap settled_onward settled;
         logged_is = ap settled_log settled;
@@ -322,10 +325,16 @@ notes_at run place number leg arrivals pairs ts are seconds few =
             (ap (λ l. l ++ (settled_noted number leg p.0 ++ [])) (append-nil (arrival_noted run place number leg p.1))
             ∙ sym (append_assoc (arrival_noted run place number leg p.1) (settled_noted number leg p.0) []) ∙ ap (λ l. l ++ []) (sym same))
 
--- a turn adds trips
-pub turn_adds : (run : Run) (place : Place) (arrivals : List Arrival) (old new : Account) → IsKindSet run.visit → IsValid place.graph → length place.graph.nodes ≤ most_nodes → 0 < run.workers
-    → slice_get run.graphs place.generation ≡ Some place.graph → IsTurn run place arrivals old new → (trips : List Trip) × Adds run old new trips
-turn_adds run place arrivals old new kinds valid small some is_graph turn =
+all_unit : (xs : List Settled) → AllByRecursion (λ s. Unit {0}) xs
+all_unit [] = tt
+all_unit (x ∷ xs) = (tt, all_unit xs)
+
+-- a turn adds trips, each under its own generation; what holds of the outcome and the refusal of each packet that it settled holds of
+-- each of them
+pub turn_adds_with : (P : Outcome → Option ℕ → Type 0) (run : Run) (place : Place) (arrivals : List Arrival) (old new : Account) → IsKindSet run.visit → IsValid place.graph → length place.graph.nodes ≤ most_nodes → 0 < run.workers
+    → slice_get run.graphs place.generation ≡ Some place.graph → (turn : IsTurn run place arrivals old new) → AllByRecursion (λ s. P s.ended.outcome s.refused) turn.settled
+    → (trips : List Trip) × Adds run old new trips × AllByRecursion (λ t. t.generation ≡ place.generation) trips × AllByRecursion (λ t. P t.way.outcome t.refused) trips
+turn_adds_with P run place arrivals old new kinds valid small some is_graph turn holds =
     let found = matched (λ (s : Settled). s.ended) (end_at run place) (MayArrive run place) same_ended same_ended_decides
     (λ e may. (ended_by (legs_with place e) may.way, ap (option_map (ended_by (legs_with place e))) may.is_way)) turn.settled arrivals turn.may turn.same in
     let pairs : List (Settled × Arrival) = found.pairs in
@@ -392,8 +401,31 @@ turn_adds run place arrivals old new kinds valid small some is_graph turn =
             omega (arith, e, k, l));
         freed = (let e = turn.freed in let k = ap length logs in omega (arith, e, k));
       },
+      each_at run place (λ s. Unit {0}) (λ t. t.generation ≡ place.generation) (λ s e t u is. is.generation) pairs ts anything are,
+      each_at run place (λ s. P s.ended.outcome s.refused) (λ t. P t.way.outcome t.refused)
+          (λ s e t p is. subst (λ o. P o t.refused) (sym is.outcome) (subst (λ r. P s.ended.outcome r) (sym is.refused) p)) pairs ts
+          (all_firsts (λ s. P s.ended.outcome s.refused) pairs (subst (AllByRecursion (λ s. P s.ended.outcome s.refused)) (sym firsts) holds)) are,
     )
-  where
-    all_unit : (xs : List Settled) → AllByRecursion (λ s. Unit {0}) xs
-    all_unit [] = tt
-    all_unit (x ∷ xs) = (tt, all_unit xs)
+
+-- under its own generation
+pub turn_adds_under : (run : Run) (place : Place) (arrivals : List Arrival) (old new : Account) → IsKindSet run.visit → IsValid place.graph → length place.graph.nodes ≤ most_nodes → 0 < run.workers
+    → slice_get run.graphs place.generation ≡ Some place.graph → IsTurn run place arrivals old new
+    → (trips : List Trip) × Adds run old new trips × AllByRecursion (λ t. t.generation ≡ place.generation) trips
+turn_adds_under run place arrivals old new kinds valid small some is_graph turn =
+    let found = turn_adds_with (λ outcome refused. Unit {0}) run place arrivals old new kinds valid small some is_graph turn (all_unit turn.settled) in
+    (found.0, found.1, found.2)
+
+pub turn_adds : (run : Run) (place : Place) (arrivals : List Arrival) (old new : Account) → IsKindSet run.visit → IsValid place.graph → length place.graph.nodes ≤ most_nodes → 0 < run.workers
+    → slice_get run.graphs place.generation ≡ Some place.graph → IsTurn run place arrivals old new → (trips : List Trip) × Adds run old new trips
+turn_adds run place arrivals old new kinds valid small some is_graph turn =
+    let found = turn_adds_under run place arrivals old new kinds valid small some is_graph turn in
+    (found.0, found.1)
+
+-- with counts of the queues to their workers
+pub turn_adds_counted : (run : Run) (place : Place) (arrivals : List Arrival) (old new : Account) (lossless : Bool) → IsKindSet run.visit → IsValid place.graph → length place.graph.nodes ≤ most_nodes → 0 < run.workers
+    → slice_get run.graphs place.generation ≡ Some place.graph → (turn : IsTurn run place arrivals old new)
+    → AllByRecursion (λ s. IsCountIn run.slots lossless old.put new.put s.ended.outcome s.refused) turn.settled
+    → (trips : List Trip) × Adds run old new trips × AllByRecursion (λ t. t.generation ≡ place.generation) trips
+    × AllByRecursion (λ t. IsCountIn run.slots lossless old.put new.put t.way.outcome t.refused) trips
+turn_adds_counted run place arrivals old new lossless kinds valid small some is_graph turn counts =
+    turn_adds_with (IsCountIn run.slots lossless old.put new.put) run place arrivals old new kinds valid small some is_graph turn counts

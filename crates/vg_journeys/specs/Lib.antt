@@ -13,3 +13,5 @@ pub mod Windows
 pub mod SameEnd
 pub mod Ends
 pub mod Ended
+pub mod Counts
+pub mod Balance

@@ -1,5 +1,5 @@
 //! Laws of runs: each is a function whose contract is the law.
-ghost use Rattle.std.specs.Prelude.{◌≡◌, ℕ, suc, ◌+◌, ◌%◌, ◌<◌, ◌≤◌, List, [], ◌∷◌, ◌++◌, length, slice_get, Some, None};
+ghost use Rattle.std.specs.Prelude.{Bool, ◌≡◌, ℕ, suc, ◌+◌, ◌%◌, ◌<◌, ◌≤◌, List, [], ◌∷◌, ◌++◌, length, slice_get, Some, None};
 ghost use Rattle.std.specs.List.{sum_by, AllByRecursion};
 ghost use Rattle.vg_model.specs.Graph.{Graph, handoff_dequeue};
 ghost use Rattle.vg_model.specs.Edit.{most_nodes};
@@ -13,7 +13,9 @@ ghost use Rattle.vg_counters.specs.Tally.{Tally};
 ghost use Rattle.vg_journeys.specs.Trips.{Run, Arrival, Trip};
 ghost use Rattle.vg_journeys.specs.Runs.{AreAllTrips, AreJourneys};
 ghost use Rattle.vg_journeys.specs.Accounts.{Account, HandoffFrame, Adds, below, arrivals_in, came};
-ghost use Rattle.vg_journeys.specs.Moments.{begun, IsMoment, IsConserved, IsOver, trips_of, on_the_way};
+ghost use Rattle.vg_journeys.specs.Counts.{IsCountIn};
+ghost use Rattle.vg_journeys.specs.Balance.{IsBalanced};
+ghost use Rattle.vg_journeys.specs.Moments.{begun, StandsFor, IsMoment, IsConserved, IsOver, trips_of, on_the_way};
 ghost use Rattle.vg_journeys.specs.Kept.{AreKept};
 ghost use Rattle.vg_journeys.specs.Turns.{Place, way_at, IsSoundArrival, ComesFrom, IsTurn};
 ghost use Rattle.vg_journeys.specs.Steps.{IsStep, replaced};
@@ -56,6 +58,27 @@ pub fn turns_add_trips()
     ensures { (run : Run) (place : Place) (arrivals : List Arrival) (old new : Account) → IsKindSet run.visit → IsValid place.graph
         → length place.graph.nodes ≤ most_nodes → 0 < run.workers
         → slice_get run.graphs place.generation ≡ Some place.graph → IsTurn run place arrivals old new → (trips : List Trip) × Adds run old new trips }
+{}
+
+/// A turn adds trips, each under the generation of the turn; and where each packet that the turn refused has a count of the queue to the
+/// worker that its leg hands it to, so has each of these trips.
+pub fn turns_run_under_their_generation()
+    ensures under { (run : Run) (place : Place) (arrivals : List Arrival) (old new : Account) → IsKindSet run.visit → IsValid place.graph
+        → length place.graph.nodes ≤ most_nodes → 0 < run.workers
+        → slice_get run.graphs place.generation ≡ Some place.graph → IsTurn run place arrivals old new
+        → (trips : List Trip) × Adds run old new trips × AllByRecursion (λ t. t.generation ≡ place.generation) trips }
+    ensures counted { (run : Run) (place : Place) (arrivals : List Arrival) (old new : Account) (lossless : Bool) → IsKindSet run.visit → IsValid place.graph
+        → length place.graph.nodes ≤ most_nodes → 0 < run.workers
+        → slice_get run.graphs place.generation ≡ Some place.graph → (turn : IsTurn run place arrivals old new)
+        → AllByRecursion (λ s. IsCountIn run.slots lossless old.put new.put s.ended.outcome s.refused) turn.settled
+        → (trips : List Trip) × Adds run old new trips × AllByRecursion (λ t. t.generation ≡ place.generation) trips
+        × AllByRecursion (λ t. IsCountIn run.slots lossless old.put new.put t.way.outcome t.refused) trips }
+{}
+
+/// At any moment between the turns of a worker, what it has logged and what it has handed over is what it drew and what it took: number
+/// by number, and leg by leg, with one leg more than it came with.
+pub fn workers_lose_nothing()
+    ensures { (run : Run) (traced worker : ℕ) (a : Account) → StandsFor run traced worker a → IsBalanced run a }
 {}
 
 /// A run begins at a moment at which nothing is done, and a turn leads from moment to moment, whichever worker has it.

@@ -1,0 +1,12 @@
+//! What one worker hands to another: frames of packets, and the queues that carry them.
+#![tactic(auto)]
+
+pub mod hand_frames;
+pub mod handoffs;
+pub mod packets;
+#[cfg(test)]
+mod tests;
+
+pub use hand_frames::HandFrame;
+pub use handoffs::{Counted, Handoff};
+pub use packets::{HandPackets, Unpacked};
