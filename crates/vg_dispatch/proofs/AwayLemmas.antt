@@ -1,10 +1,9 @@
 -- The packets of a dispatch are put away one by one.
-use Rattle.std.proofs.Common.{◌≡◌, ℕ, suc, ◌+◌, ◌<◌, ◌≤◌, ◌^◌, List, [], ◌∷◌, ◌++◌, length, map, get_or, drop, set, refl, sym, ap, subst, ◌∙◌, arith, add-one, drop-cons}
-use Rattle.std.specs.Prelude.{Option, Some, None, IfSome, slice_index, vec_len, vec_capacity, ◌==◌, if◌then◌else◌}
-use Rattle.std.specs.List.{sum_by}
+use Rattle.std.proofs.Common.{◌≡◌, ℕ, suc, ◌+◌, ◌<◌, ◌≤◌, ◌^◌, List, [], ◌∷◌, ◌++◌, length, map, get_or, drop, set, sym, ap, subst, ◌∙◌, arith, add-one, drop-cons}
+use Rattle.std.specs.Prelude.{Bool, Option, Some, None, IfSome, slice_index, vec_len, vec_capacity}
+use Rattle.std.specs.List.{sum_by, cons_option}
 use Rattle.std.proofs.lemmas.List.{drop_all}
 use Rattle.std.proofs.lemmas.List.Sums.{sum_by-cons}
-use Rattle.vg_model.specs.declared.kinds.DropError.TheVariants.{HandoffLimit}
 use Rattle.vg_model.specs.Errors.{error_number}
 use Rattle.vg_model.specs.declared.kinds.Kind.{Kind}
 use Rattle.vg_model.specs.declared.kinds.Step.{Step}
@@ -13,9 +12,7 @@ use Rattle.vg_model.specs.declared.fates.End.{End}
 use Rattle.vg_model.specs.declared.fates.End.TheVariants as ends
 use Rattle.vg_model.specs.Graph.{Graph, kind_at, slots, arc, error_drop}
 use Rattle.vg_model.specs.Valid.{IsTarget, IsStepOf}
-use Rattle.vg_model.specs.Hash.{target_worker}
-use Rattle.vg_model.specs.Leg.{Onward, Over, Handed, move_of}
-use Rattle.vg_model.specs.Leg as legs
+use Rattle.vg_model.specs.Leg.{Onward, Over}
 use Rattle.vg_model.specs.PoolBook.{CacheBook}
 use Rattle.vg_model.proofs.LegEnds.{arc_target}
 use Rattle.vg_pool.specs.Contents.{Contents}
@@ -26,15 +23,19 @@ use Rattle.vg_nodes.specs.declared.sorted.Sorted.{Sorted}
 use Rattle.vg_nodes.specs.Dispatch.{IsSortedBy, IsVisitedBy}
 use Rattle.vg_frame.specs.Placed.{count}
 use Rattle.vg_dispatch.specs.declared.underway.Work.{Work}
-use Rattle.vg_dispatch.specs.Ended.{Ended, drop_visits}
+use Rattle.vg_journeys.specs.Ended.{Ended, drop_visits}
+use Rattle.vg_journeys.specs.Accounts.{HandoffFrame}
+use Rattle.vg_journeys.specs.Turns.{Settled}
 use Rattle.vg_dispatch.specs.Underway.{Setting, IsSetting, moved, move_owed, contents_at, waiting, in_hand, counts_from}
-use Rattle.vg_dispatch.specs.Traced.{StayTraced, noted_frame}
-use Rattle.vg_dispatch.specs.Works.{total, IsHeld, IsSteady, Advances, Exchanges, TakesAll, IsPutAway, hand_of, visits_in_all, CanFinish, CanCount, Finishes, outcome_of, ended_with, sent_len, by_bytes, by_visits, by_all_visits}
+use Rattle.vg_dispatch.specs.Hands.{PutsAway, IsDispatched}
+use Rattle.vg_dispatch.proofs.DeliverLemmas.{delivers_then, delivers_nothing}
+use Rattle.vg_dispatch.specs.Traced.{Sight, IsTraced, with_refusals, noted_frame}
+use Rattle.vg_dispatch.specs.Works.{total, IsHeld, IsSteady, Advances, Exchanges, TakesAll, IsPutAway, EndsHere, hand_of, visits_in_all, visits_left, ends_of, refused_visits, logged_count, CanFinish, CanCount, Finishes, outcome_of, ended_with, settled_with, sent_len, by_bytes, by_visits, by_all_visits}
 use Rattle.vg_dispatch.proofs.SumLemmas.{sum_by_none, counts_from_at}
 use Rattle.vg_dispatch.proofs.OwedLemmas.{target_within, drop_within}
-use Rattle.vg_dispatch.proofs.WorkLemmas.{live_in_hand, total_of, advances_none, advances_then, exchanges_none, exchanges_then, takes_kept}
-use Rattle.vg_dispatch.proofs.PutLemmas.{with_waiting, to_within, put_steady, finish_steady}
-use Rattle.vg_dispatch.proofs.TraceLemmas.{traced_put, traced_finish, traced_at}
+use Rattle.vg_dispatch.proofs.WorkLemmas.{live_in_hand, total_of, advances_none, advances_then, all_append, exchanges_none, exchanges_then, takes_kept}
+use Rattle.vg_dispatch.proofs.PutLemmas.{with_waiting, to_within, put_steady, finish_steady, settled_logged, settled_here}
+use Rattle.vg_dispatch.proofs.TraceLemmas.{traced_put, traced_finish, traced_at, traced_same, traced_then, traced_ended}
 use Rattle.vg_dispatch.proofs.FrameLemmas.{steady_at, advances_at, with_visited, visited_steady, visited_more}
 use Rattle.vg_dispatch.proofs.VisitedLemmas.{traced_visited}
 
@@ -55,9 +56,11 @@ pub away_none : (s : Setting) (node : ℕ) (w : Work) (cache : CacheBook) (hand 
 away_none s node w cache hand steady takes = record {
   steady = steady;
   takes = takes;
+  settled = [];
   advances = advances_none s node w hand;
-  exchanges = exchanges_none w cache;
-  traced = λ whole packets traced. traced;
+  exchanges = exchanges_none cache;
+  here = tt;
+  traced = λ whole packets traced. traced_same s whole packets node w hand traced;
 }
 
 -- a packet that goes on
@@ -71,10 +74,17 @@ away_put s node old old_cache old_hand w cache p rest slot to pending ok goes le
     subst (λ q. IsPutAway s node old old_cache old_hand (record w { pending = q }) cache rest) (sym is) (record {
       steady = step.0;
       takes = record { len = away.takes.len; freed = away.takes.freed };
-      advances = advances_then s node [] [] old w (with_waiting to p.0 w) old_hand (p ∷ rest) rest away.advances step.1;
-      exchanges = record { len = away.exchanges.len; freed = away.exchanges.freed; allocated = away.exchanges.allocated; taken = away.exchanges.taken; given = away.exchanges.given };
-      traced = λ whole packets traced. traced_put s whole packets node w p rest to inside (goes ∙ ap Onward leads) (away.traced whole packets traced);
+      settled = away.settled ++ [];
+      advances = advances_then s node [] [] away.settled [] old w (with_waiting to p.0 w) old_hand (p ∷ rest) rest away.advances step.1;
+      exchanges = exchanges_then [] [] away.settled [] old_cache cache cache away.exchanges (exchanges_none cache);
+      here = all_append EndsHere away.settled [] away.here tt;
+      traced = traced_then s node away.settled [] old old_hand w (p ∷ rest) (with_waiting to p.0 w) rest away.traced
+          (λ whole packets traced. traced_same s whole packets node (with_waiting to p.0 w) rest (traced_put s whole packets node w p rest to inside (goes ∙ ap Onward leads) traced));
     })
+
+-- and there is room for it
+pub put_room : (s : Setting) (node : ℕ) (w : Work) (p : ℕ × Step) (rest : List (ℕ × Step)) → IsHeld s node w (p ∷ rest) → pending_count w.pending < 2304
+put_room s node w p rest held = let all : pending_count w.pending + suc (length rest) ≡ count w.memory = held.count_is in let few = held.few in omega (arith, all, few)
 
 -- where it goes on to is one of the nodes
 pub put_within : (s : Setting) (node : ℕ) (old : Work) (old_cache : CacheBook) (old_hand : List (ℕ × Step)) (w : Work) (cache : CacheBook) (hand : List (ℕ × Step)) (slot to : ℕ)
@@ -89,10 +99,10 @@ abbrev pub IsEndIn : Setting → End → Type 0
 IsEndIn s (ends.Tx interface) = interface < length s.graph.interfaces
 IsEndIn s (ends.Dropped node error) = node < length s.graph.nodes
 
-some_in_hand : (s : Setting) (node : ℕ) (w : Work) (p : ℕ × Step) (rest : List (ℕ × Step)) → IsHeld s node w (p ∷ rest) → 1 ≤ count w.memory
+pub some_in_hand : (s : Setting) (node : ℕ) (w : Work) (p : ℕ × Step) (rest : List (ℕ × Step)) → IsHeld s node w (p ∷ rest) → 1 ≤ count w.memory
 some_in_hand s node w p rest held = let all : pending_count w.pending + suc (length rest) ≡ count w.memory = held.count_is in omega (arith, all)
 
-can_count : (s : Setting) (node : ℕ) (w : Work) (p : ℕ × Step) (rest : List (ℕ × Step)) (end : End) → IsSetting s → IsSteady s node w (p ∷ rest) → IsEndIn s end → CanCount end w.counts
+pub can_count : (s : Setting) (node : ℕ) (w : Work) (p : ℕ × Step) (rest : List (ℕ × Step)) (end : End) → IsSetting s → IsSteady s node w (p ∷ rest) → IsEndIn s end → CanCount end w.counts
 can_count s node w p rest (ends.Tx interface) ok steady within =
     let some = some_in_hand s node w p rest steady.held in
     let few = ok.few_interfaces in let size = steady.held.sends in let room = steady.room.sends interface in
@@ -101,7 +111,7 @@ can_count s node w p rest (ends.Dropped n error) ok steady within =
     let some = some_in_hand s node w p rest steady.held in
     let few = ok.few_nodes in let size = steady.held.visits in let room = steady.room.drops n (error_number error) in
     let drop_node = drop_within s ok in
-    let visits : total s (by_visits error_drop) w [] + in_hand s (by_visits error_drop) node w.memory (p ∷ rest) < 2 ^ 62 = steady.room.visits error_drop in
+    let visits : total s (by_visits error_drop) w [] + in_hand s (by_visits error_drop) node w.memory (p ∷ rest) + count w.memory < 2 ^ 62 = steady.room.visits error_drop in
     let e = total_of s (by_visits error_drop) w [] in
     let here : counts_from (by_visits error_drop).visits 0 w.counts.visits ≡ slice_index w.counts.visits error_drop = counts_from_at error_drop w.counts.visits in
     (omega (arith, within, few, size), omega (arith, some, room), omega (arith, drop_node, few, size), omega (arith, visits, e, here))
@@ -114,7 +124,7 @@ can_finish s node old old_cache old_hand w cache p rest end ok within over away 
     let c : Contents = contents_at w.memory p.0 in
     record {
       live = live_in_hand s node w p rest away.steady.held;
-      legs = (away.steady.held.legs p.0 (live_in_hand s node w p rest away.steady.held), (away.steady.held.sound p.0).few_legs);
+      legs = ((away.steady.held.legs p.0 (live_in_hand s node w p rest away.steady.held)).0, (away.steady.held.sound p.0).few_legs);
       fates = (let room = away.steady.room.fates in omega (arith, some, room));
       entries = (let room = away.steady.room.entries in omega (arith, some, room));
       bytes =
@@ -137,21 +147,26 @@ away_finish s node old old_cache old_hand w cache p rest end new new_cache ok wi
     let can = can_count s node w p rest end ok away.steady within in
     let step = finish_steady s node w new p rest end away.steady can f over in
     let less = f.count_is in
+    let c : Contents = contents_at w.memory p.0 in
+    let one : logged_count (settled_with end c ∷ []) ≡ 1 = ap (λ o. length (cons_option o [])) (settled_logged end c) in
     let len : new_cache.len ≡ cache.len + 1 = ap (λ x. x.len) is in
     let freed : new_cache.freed ≡ cache.freed + 1 = ap (λ x. x.freed) is in
-    let exchange : Exchanges 0 w new cache new_cache = record {
-      len = omega (arith, less, len);
-      freed = omega (arith, less, freed);
+    let exchange : Exchanges [] (settled_with end c ∷ []) cache new_cache = record {
+      len = omega (arith, one, len);
+      freed = omega (arith, one, freed);
       allocated = ap (λ x. x.allocated) is ∙ (let e : cache.allocated ≡ cache.allocated + 0 = omega arith in e);
       taken = ap (λ x. x.taken) is;
       given = ap (λ x. x.given) is;
     } in
     record {
       steady = step.0;
-      takes = takes_kept w new cache new_cache away.takes exchange;
-      advances = advances_then s node [] [] old w new old_hand (p ∷ rest) rest away.advances step.1;
-      exchanges = exchanges_then 0 0 old w new old_cache cache new_cache away.exchanges exchange;
-      traced = λ whole packets traced. traced_finish s whole packets node w new p rest end away.steady.held f over (away.traced whole packets traced);
+      takes = takes_kept (settled_with end c ∷ []) w new cache new_cache away.takes (omega (arith, less)) exchange;
+      settled = away.settled ++ settled_with end c ∷ [];
+      advances = advances_then s node [] [] away.settled (settled_with end c ∷ []) old w new old_hand (p ∷ rest) rest away.advances step.1;
+      exchanges = exchanges_then [] [] away.settled (settled_with end c ∷ []) old_cache cache new_cache away.exchanges exchange;
+      here = all_append EndsHere away.settled (settled_with end c ∷ []) away.here (settled_here end c, tt);
+      traced = traced_then s node away.settled (settled_with end c ∷ []) old old_hand w (p ∷ rest) new rest away.traced
+          (λ whole packets traced. traced_ended s whole packets node new rest end c (traced_finish s whole packets node w new p rest end away.steady.held f over traced));
     }
 
 -- the slot of a step is one of the node's
@@ -177,21 +192,13 @@ interface_of g (Some kind) interface target h = h
 pub tx_interface : (s : Setting) (node index interface : ℕ) (w : Work) (rest : List (ℕ × Step)) → IsTarget (kind_at s.graph node) → IsHeld s node w ((index, Tx interface) ∷ rest) → interface < length s.graph.interfaces
 tx_interface s node index interface w rest target held = interface_of s.graph (kind_at s.graph node) interface target held.steps.0
 
--- the only worker is the target of each hash
-only_target : (hash : ℕ) → target_worker 1 hash ≡ 0
-only_target hash = omega arith
-
-pub goes_on_here : (g : Graph) (leg_number node hash : ℕ) → move_of g 1 0 leg_number node (Hand hash) ≡ Onward (arc g node 0)
-goes_on_here g leg_number node hash =
-    ap (λ target. if target == 0 then Onward (arc g node 0) else if leg_number == 4 then Over (legs.Dropped node HandoffLimit) else Over (Handed node target)) (only_target hash)
-
 -- a frame that was taken, counted, noted and visited is in hand
 pub record IsInHand (s : Setting) (w : Work) (node : ℕ) (mid : Work) (hand : List (ℕ × Step)) : Type 0 where
   pub steady : IsSteady s node mid hand
-  pub advances : Advances s node [] w [] mid hand
+  pub advances : Advances s node [] [] w [] mid hand
   pub more : visits_in_all w.counts < visits_in_all mid.counts
   pub count_is : count mid.memory ≡ count w.memory
-  pub traced : StayTraced s node w [] mid hand
+  pub traced : (whole : Sight) (packets : ℕ) → IsTraced s whole packets node w [] → IsTraced s whole packets node mid hand
 
 pub dispatched : (s : Setting) (w : Work) (node : ℕ) (frame : List ℕ) (n : ℕ) (pending : List (List ℕ)) (memory : List (Option Contents)) (counts : Tally) (noted : Work) (sorted : Sorted) → IsSetting s → IsSteady s 0 w []
     → TakesFrame w.pending node frame pending → n ≡ length frame → counts ≡ record w.counts { visits = more_at node n w.counts.visits }
@@ -215,46 +222,62 @@ dispatched s w node frame n pending memory counts noted sorted ok steady takes s
       traced = λ whole packets traced. traced_visited s whole packets w node frame pending memory mid.counts sorted ok steady.held takes sorted_is visited (traced_at s whole packets node 0 w traced);
     })
 
--- a frame that was dispatched
-pub record IsDispatched (s : Setting) (old : Work) (old_cache : CacheBook) (new : Work) (new_cache : CacheBook) : Type 0 where
-  pub steady : IsSteady s 0 new []
-  pub takes : TakesAll new new_cache
-  pub advances : Advances s 0 [] old [] new []
-  pub exchanges : Exchanges 0 old new old_cache new_cache
-  pub traced : StayTraced s 0 old [] new []
-
-pub put_away : (s : Setting) (node : ℕ) (w mid : Work) (cache : CacheBook) (hand : List (ℕ × Step)) (new : Work) (new_cache : CacheBook) → count mid.memory ≡ count w.memory → Advances s node [] w [] mid hand
-    → StayTraced s node w [] mid hand → IsPutAway s node mid cache hand new new_cache [] → IsDispatched s w cache new new_cache
-put_away s node w mid cache hand new new_cache same first noted away = record {
+pub put_away : (s : Setting) (node slots : ℕ) (lossless : Bool) (w mid : Work) (cache : CacheBook) (put : List (List HandoffFrame)) (hand : List (ℕ × Step)) (new : Work) (new_cache : CacheBook) (new_put : List (List HandoffFrame)) → IsInHand s w node mid hand
+    → PutsAway s node slots lossless mid cache put hand new new_cache new_put [] → IsDispatched s slots lossless w cache put new new_cache new_put
+put_away s node slots lossless w mid cache put hand new new_cache new_put first away = record {
   steady = steady_at s node 0 new away.steady;
   takes = away.takes;
-  advances = advances_at s node 0 [] w new (advances_then s node [] [] w mid new [] hand [] first away.advances);
-  exchanges = exchanges_then 0 0 w mid new cache cache new_cache (record {
-    len = ap (λ k. cache.len + k) same;
-    freed = omega (arith, same);
-    allocated = omega arith;
-    taken = refl;
-    given = refl;
-  }) away.exchanges;
-  traced = λ whole packets traced. traced_at s whole packets node 0 new (away.traced whole packets (noted whole packets (traced_at s whole packets 0 node w traced)));
+  settled = away.settled;
+  advances = advances_at s node 0 [] away.settled w new (advances_then s node [] [] [] away.settled w mid new [] hand [] first.advances away.advances);
+  exchanges = away.exchanges;
+  delivers = away.delivers;
+  traced = λ whole packets traced. traced_at s (with_refusals away.settled whole) packets node 0 new (away.traced whole packets (first.traced whole packets (traced_at s whole packets 0 node w traced)));
+}
+
+-- one stretch and then another
+pub away_then : (s : Setting) (node : ℕ) (a b c : Work) (xa xb xc : CacheBook) (ha hb hc : List (ℕ × Step)) → IsPutAway s node a xa ha b xb hb → IsPutAway s node b xb hb c xc hc → IsPutAway s node a xa ha c xc hc
+away_then s node a b c xa xb xc ha hb hc one two = record {
+  steady = two.steady;
+  takes = two.takes;
+  settled = one.settled ++ two.settled;
+  advances = advances_then s node [] [] one.settled two.settled a b c ha hb hc one.advances two.advances;
+  exchanges = exchanges_then [] [] one.settled two.settled xa xb xc one.exchanges two.exchanges;
+  here = all_append EndsHere one.settled two.settled one.here two.here;
+  traced = traced_then s node one.settled two.settled a ha b hb c hc one.traced two.traced;
+}
+
+-- none yet
+pub dispatched_none : (s : Setting) (slots : ℕ) (lossless : Bool) (w : Work) (cache : CacheBook) (put : List (List HandoffFrame)) → IsSteady s 0 w [] → TakesAll w cache → IsDispatched s slots lossless w cache put w cache put
+dispatched_none s slots lossless w cache put steady takes = record {
+  steady = steady;
+  takes = takes;
+  settled = [];
+  advances = advances_none s 0 w [];
+  exchanges = exchanges_none cache;
+  delivers = delivers_nothing s slots lossless [] put tt;
+  traced = λ whole packets traced. traced_same s whole packets 0 w [] traced;
 }
 
 -- one frame more
-pub dispatched_more : (s : Setting) (old w new : Work) (old_cache cache new_cache : CacheBook) → IsDispatched s old old_cache w cache → IsSteady s 0 new [] → Advances s 0 [] w [] new [] → Exchanges 0 w new cache new_cache
-    → StayTraced s 0 w [] new [] → IsDispatched s old old_cache new new_cache
-dispatched_more s old w new old_cache cache new_cache all steady a e traced = record {
-  steady = steady;
-  takes = takes_kept w new cache new_cache all.takes e;
-  advances = advances_then s 0 [] [] old w new [] [] [] all.advances a;
-  exchanges = exchanges_then 0 0 old w new old_cache cache new_cache all.exchanges e;
-  traced = λ whole packets so_far. traced whole packets (all.traced whole packets so_far);
+pub dispatched_more : (s : Setting) (slots : ℕ) (lossless : Bool) (old w new : Work) (old_cache cache new_cache : CacheBook) (old_put put new_put : List (List HandoffFrame)) → IsDispatched s slots lossless old old_cache old_put w cache put
+    → IsDispatched s slots lossless w cache put new new_cache new_put → IsDispatched s slots lossless old old_cache old_put new new_cache new_put
+dispatched_more s slots lossless old w new old_cache cache new_cache old_put put new_put all one = record {
+  steady = one.steady;
+  takes = one.takes;
+  settled = all.settled ++ one.settled;
+  advances = advances_then s 0 [] [] all.settled one.settled old w new [] [] [] all.advances one.advances;
+  exchanges = exchanges_then [] [] all.settled one.settled old_cache cache new_cache all.exchanges one.exchanges;
+  delivers = delivers_then s slots lossless all.settled one.settled old_put put new_put all.delivers one.delivers;
+  traced = traced_then s 0 all.settled one.settled old [] w [] new [] all.traced one.traced;
 }
 
 -- fewer visits are still to come
-pub visits_fall : (s : Setting) (old new : Work) → Advances s 0 [] old [] new [] → visits_in_all old.counts < visits_in_all new.counts
-    → waiting s by_all_visits new.memory new.pending < waiting s by_all_visits old.memory old.pending
-visits_fall s old new a more =
-    let all : total s by_all_visits new a.ended + 0 ≡ total s by_all_visits old [] + 0 + 0 = a.same by_all_visits in
-    let t1 = total_of s by_all_visits new a.ended in let t2 = total_of s by_all_visits old [] in
-    let none = sum_by_none {X = Ended} a.ended in
-    omega (arith, all, t1, t2, none, more)
+pub visits_fall : (s : Setting) (node : ℕ) (settled : List Settled) (w mid new : Work) (hand : List (ℕ × Step)) → IsInHand s w node mid hand → Advances s node [] settled mid hand new [] → visits_left s new < visits_left s w
+visits_fall s node settled w mid new hand first a =
+    let all : Advances s node [] settled w [] new [] = advances_then s node [] [] [] settled w mid new [] hand [] first.advances a in
+    let same : total s by_all_visits new (ends_of settled) + 0 ≡ total s by_all_visits w [] + 0 + 0 + refused_visits (λ n. 1) settled = all.same by_all_visits in
+    let t1 = total_of s by_all_visits new (ends_of settled) in let t2 = total_of s by_all_visits w [] in
+    let none = sum_by_none {X = Ended} (ends_of settled) in
+    let grows = a.visited in
+    let more = first.more in
+    omega (arith, same, t1, t2, none, grows, more)

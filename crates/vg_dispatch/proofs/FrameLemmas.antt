@@ -19,6 +19,8 @@ use Rattle.vg_counters.specs.Tally.{Tally, more_at}
 use Rattle.vg_nodes.specs.declared.sorted.Sorted.{Sorted}
 use Rattle.vg_nodes.specs.Dispatch.{NodeVisit, after_visit, IsSortedBy, IsVisitedBy}
 use Rattle.vg_dispatch.specs.declared.underway.Work.{Work}
+use Rattle.vg_journeys.specs.Trips.{Arrival}
+use Rattle.vg_journeys.specs.Turns.{Settled}
 use Rattle.vg_dispatch.specs.Underway.{Setting, Weights, IsSetting, owed, after_at, moved, move_at, move_owed, contents_at, live_at, waiting, in_hand, counts_from, sum_from}
 use Rattle.vg_dispatch.specs.Places.{same_one, times_waiting, times_in_hand}
 use Rattle.vg_dispatch.specs.Works.{total, hand_of, IsHeld, IsSteady, IsStepIn, Advances, by_visits, visits_in_all}
@@ -54,14 +56,14 @@ steady_at s node other w steady = record {
   };
 }
 
-pub advances_at : (s : Setting) (node other : ℕ) (packets : List (ℕ × List ℕ)) (old new : Work) → Advances s node packets old [] new [] → Advances s other packets old [] new []
-advances_at s node other packets old new a = record {
-  ended = a.ended;
+pub advances_at : (s : Setting) (node other : ℕ) (arrivals : List Arrival) (settled : List Settled) (old new : Work) → Advances s node arrivals settled old [] new [] → Advances s other arrivals settled old [] new []
+advances_at s node other arrivals settled old new a = record {
   same = a.same;
+  may_be = a.may_be;
   live = a.live;
   fates = a.fates;
   sent = a.sent;
-  entries = a.entries;
+  entries_most = a.entries_most;
   bytes = a.bytes;
   room = a.room;
   size = a.size;
@@ -108,7 +110,7 @@ noted_live s w noted node frame pending counts trace held takes is = subst (λ (
 legs_of_live : (s : Setting) (w : Work) (frame : List ℕ) → IsHeld s 0 w [] → AllByRecursion (IsLive w.memory) frame
     → AllByRecursion (λ i. (1 ≤ length (contents_at w.memory i).legs) × (length (contents_at w.memory i).legs ≤ 4)) frame
 legs_of_live s w [] held live = tt
-legs_of_live s w (i ∷ rest) held live = ((held.legs i live.0, (held.sound i).few_legs), legs_of_live s w rest held live.1)
+legs_of_live s w (i ∷ rest) held live = (((held.legs i live.0).0, (held.sound i).few_legs), legs_of_live s w rest held live.1)
 
 pub frame_legs : (s : Setting) (w : Work) (node : ℕ) (frame : List ℕ) (pending : List (List ℕ)) → IsHeld s 0 w [] → TakesFrame w.pending node frame pending
     → AllByRecursion (λ i. (1 ≤ length (contents_at w.memory i).legs) × (length (contents_at w.memory i).legs ≤ 4)) frame
@@ -147,7 +149,7 @@ frame_counts s w node frame pending ok steady takes =
     let yes : t.visits node ≡ 1 = ap (λ b. cond b 1 0) (eq-eqb node node refl) in
     let product : t.visits node * length frame ≡ length frame = ap (λ k. k * length frame) yes ∙ one_time (length frame) in
     let all = frame_owed s t w node frame pending ok steady.held takes in
-    let room : total s t w [] + 0 < 2 ^ 62 = steady.room.visits node in
+    let room : total s t w [] + 0 + count w.memory < 2 ^ 62 = steady.room.visits node in
     let e = total_of s t w [] in
     let here : counts_from t.visits 0 w.counts.visits ≡ slice_index w.counts.visits node = counts_from_at node w.counts.visits in
     (node_within s w node ok steady.held target, omega (arith, product, all, room, e, here))
@@ -188,18 +190,18 @@ visited_sound s node frame old new ok target v sound i = by (sum_by (same_one i)
         sound_after s node (buffer_at old i) (buffer_at new i) ok target here (sound i)
 
 -- legs stay
-legs_after : (visit : NodeVisit) (o new : Option Contents) → new ≡ option_map (after_visit visit) o → HasLegs o → HasLegs new
-legs_after visit None new e legs = λ live. absurd (none_live new e live)
-legs_after visit (Some c) new e legs = subst HasLegs (sym e) (λ live. legs refl)
+legs_after : (g : ℕ) (visit : NodeVisit) (o new : Option Contents) → new ≡ option_map (after_visit visit) o → HasLegs g o → HasLegs g new
+legs_after g visit None new e legs = λ live. absurd (none_live new e live)
+legs_after g visit (Some c) new e legs = subst (HasLegs g) (sym e) (λ live. legs refl)
 
-visited_legs : (visit : NodeVisit) (frame : List ℕ) (old new : List (Option Contents)) → IsVisitedBy visit frame old new → ((i : ℕ) → HasLegs (buffer_at old i)) → (i : ℕ) → HasLegs (buffer_at new i)
-visited_legs visit frame old new v legs i = by (sum_by (same_one i) frame) refl
+visited_legs : (g : ℕ) (visit : NodeVisit) (frame : List ℕ) (old new : List (Option Contents)) → IsVisitedBy visit frame old new → ((i : ℕ) → HasLegs g (buffer_at old i)) → (i : ℕ) → HasLegs g (buffer_at new i)
+visited_legs g visit frame old new v legs i = by (sum_by (same_one i) frame) refl
   where
-    by : (n : ℕ) → sum_by (same_one i) frame ≡ n → HasLegs (buffer_at new i)
-    by zero none = subst HasLegs (sym (v.others i (not_among i frame none))) (legs i)
+    by : (n : ℕ) → sum_by (same_one i) frame ≡ n → HasLegs g (buffer_at new i)
+    by zero none = subst (HasLegs g) (sym (v.others i (not_among i frame none))) (legs i)
     by (suc n) some =
         let here = among_holds (λ k. buffer_at new k ≡ option_map (after_visit visit) (buffer_at old k)) i frame v.visited (omega (arith, some)) in
-        legs_after visit (buffer_at old i) (buffer_at new i) here (legs i)
+        legs_after g visit (buffer_at old i) (buffer_at new i) here (legs i)
 
 -- the steps are the node's
 step_in : (s : Setting) (node i : ℕ) (o : Option Contents) (step : Step) → IsSetting s → IsTarget (kind_at s.graph node) → AreContents (unwrap_or o nothing)
@@ -310,7 +312,7 @@ visited_held s w node frame pending memory trace sorted ok held takes is v =
       targets = taken_targets s w node frame pending held takes;
       steps = all_hand (IsStepIn s node) (s.visit s.graph node) w.memory frame sorted is (steps_in s node w.memory frame ok target held.sound);
       sound = visited_sound s node frame w.memory memory ok target v held.sound;
-      legs = visited_legs (s.visit s.graph node) frame w.memory memory v held.legs;
+      legs = visited_legs s.generation (s.visit s.graph node) frame w.memory memory v held.legs;
       visits = length-set w.counts.visits node _ ∙ held.visits;
       sends = held.sends;
       whole = record { rows = held.whole.rows ∙ sym (length-set w.counts.visits node _); errors = held.whole.errors };
@@ -322,13 +324,13 @@ visited_counts f w node k within = counts_from_more f 0 w.counts.visits node k w
 
 visited_advances : (s : Setting) (w : Work) (node : ℕ) (frame : List ℕ) (pending : List (List ℕ)) (memory : List (Option Contents)) (trace : Notes) (sorted : Sorted) → IsSetting s → IsHeld s 0 w []
     → TakesFrame w.pending node frame pending → IsSortedBy (s.visit s.graph node) w.memory frame sorted → IsVisitedBy (s.visit s.graph node) frame w.memory memory
-    → Advances s node [] w [] (with_visited node (length frame) pending memory trace w) (hand_of sorted)
+    → Advances s node [] [] w [] (with_visited node (length frame) pending memory trace w) (hand_of sorted)
 visited_advances s w node frame pending memory trace sorted ok held takes is v =
     let live = frame_live s w node frame pending held takes in
     let target = frame_target s w node frame pending held takes in
     let inside = node_within s w node ok held target in
     record {
-      ended = [];
+      may_be = tt;
       same = λ t.
           let counted = visited_counts t.visits w node (length frame) inside in
           let apart : (i : ℕ) → 0 < times_waiting i pending → buffer_at memory i ≡ buffer_at w.memory i =
@@ -341,7 +343,7 @@ visited_advances s w node frame pending memory trace sorted ok held takes is v =
       live = (let same = v.count in omega (arith, same));
       fates = sym (append-nil w.fates.items);
       sent = sym (append-nil _);
-      entries = omega arith;
+      entries_most = omega arith;
       bytes = omega arith;
       room = (omega arith, omega arith, omega arith);
       size = record { nodes = length-set w.counts.visits node _; interfaces = refl };
@@ -354,12 +356,12 @@ visited_advances s w node frame pending memory trace sorted ok held takes is v =
 -- a frame that was taken and visited is in hand
 pub visited_steady : (s : Setting) (w : Work) (node : ℕ) (frame : List ℕ) (pending : List (List ℕ)) (memory : List (Option Contents)) (trace : Notes) (sorted : Sorted) → IsSetting s → IsSteady s 0 w []
     → TakesFrame w.pending node frame pending → IsSortedBy (s.visit s.graph node) w.memory frame sorted → IsVisitedBy (s.visit s.graph node) frame w.memory memory
-    → IsSteady s node (with_visited node (length frame) pending memory trace w) (hand_of sorted) × Advances s node [] w [] (with_visited node (length frame) pending memory trace w) (hand_of sorted)
+    → IsSteady s node (with_visited node (length frame) pending memory trace w) (hand_of sorted) × Advances s node [] [] w [] (with_visited node (length frame) pending memory trace w) (hand_of sorted)
 visited_steady s w node frame pending memory trace sorted ok steady takes is v =
     let a = visited_advances s w node frame pending memory trace sorted ok steady.held takes is v in (
       record {
         held = visited_held s w node frame pending memory trace sorted ok steady.held takes is v;
-        room = room_kept s node w (with_visited node (length frame) pending memory trace w) [] (hand_of sorted) (steady_at s 0 node w steady).room a;
+        room = room_kept s node [] w (with_visited node (length frame) pending memory trace w) [] (hand_of sorted) (steady_at s 0 node w steady).room a;
       },
       a,
     )

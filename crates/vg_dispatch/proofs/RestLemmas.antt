@@ -1,120 +1,226 @@
 -- From one rest of a worker to the next.
-use Rattle.std.proofs.Common.{◌≡◌, ℕ, zero, suc, ◌+◌, ◌-◌, ◌<◌, ◌≤◌, ◌^◌, cond, List, [], ◌∷◌, ◌++◌, length, map, get_or, take, drop, refl, sym, ap, subst, ◌∙◌, arith, inl, inr}
-use Rattle.std.specs.Prelude.{Option, Some, None, is_some, option_map, unwrap_or, slice_get, slice_index, replicate, min, Vec, vec_len, flat_map, ◌==◌, if◌then◌else◌}
-use Rattle.std.specs.List.{sum_by, count_by, AllByRecursion, enumerate_from}
-use Rattle.std.proofs.lemmas.Option.{slice_get-get_or}
-use Rattle.std.proofs.lemmas.List.{append-nil, get_or_default, get_or_past, map_push, length-map, length-take, length-drop, take_all, take_more, drop_all, drop-drop}
-use Rattle.std.proofs.lemmas.List.FromFn.{length-enumerate_from}
-use Rattle.std.proofs.lemmas.List.Sums.{sum_by-cons, sum_by-append, sum_by_more, sum_by-take-le, sum_by-take-drop, count_by-le-length}
+use Rattle.std.proofs.Common.{◌≡◌, ℕ, zero, suc, ◌+◌, ◌-◌, ◌*◌, ◌<◌, ◌≤◌, ◌^◌, cond, List, [], ◌∷◌, ◌++◌, length, get_or, refl, sym, ap, subst, ◌∙◌, arith, append_assoc, length-append}
+use Rattle.std.specs.Prelude.{Bool, Option, Some, None, is_some, option_map, unwrap_or, slice_index, replicate, Vec, vec_len, flat_map, ◌==◌, if◌then◌else◌}
+use Rattle.std.specs.Option.{option_to_list}
+use Rattle.vg_model.specs.Journey.{sent_as}
+use Rattle.vg_dispatch.proofs.DeliverLemmas.{delivers_then, delivers_nothing, refusals_of, queues_grow}
+use Rattle.std.specs.List.{sum_by, count_by, filter_map, cons_option, AllByRecursion}
+use Rattle.std.proofs.lemmas.List.{append-nil, length-map}
+use Rattle.std.proofs.lemmas.Grind.{flat_map-append}
+use Rattle.std.proofs.lemmas.List.Sums.{sum_by-cons, sum_by-append}
 use Rattle.vg_model.specs.Graph.{Graph}
-use Rattle.vg_model.specs.Visit.{Visit}
-use Rattle.vg_model.specs.Valid.{AreBytes}
-use Rattle.vg_model.specs.Leg.{Way}
-use Rattle.vg_model.specs.Journey.{end_of}
+use Rattle.vg_model.specs.Leg.{Outcome, Sent, Dropped, Handed, Way}
 use Rattle.vg_model.specs.Count.{is_sent_on}
 use Rattle.vg_model.specs.PoolBook.{CacheBook}
-use Rattle.vg_capture.specs.declared.captures.Capture.{Capture}
-use Rattle.vg_capture.specs.declared.captures.Captured.{Captured}
+use Rattle.vg_model.specs.declared.fates.Fate.{Fate}
 use Rattle.vg_pool.specs.Contents.{Contents}
 use Rattle.vg_pool.specs.Moves.{most_cached}
 use Rattle.vg_frame.specs.Pending.{pending_at, pending_count, IsNothingPending}
 use Rattle.vg_frame.specs.Placed.{buffer_at, count}
 use Rattle.std.specs.declared.alloc.Global.{Global}
-use Rattle.std.proofs.lemmas.Bool.{cases_lt}
 use Rattle.std.proofs.lemmas.List.Elements.{All-replicate}
 use Rattle.vg_model.specs.Edit.{most_nodes, most_interfaces}
-use Rattle.vg_counters.specs.Notes.{Notes, nodes_of, nothing_noted, count_of_legs}
+use Rattle.vg_counters.specs.Notes.{nodes_of, nothing_noted}
 use Rattle.vg_counters.specs.Tally.{Tally, IsWhole, count_of_errors, drops_at}
-use Rattle.vg_dispatch.specs.declared.options.Options.{Options}
+use Rattle.vg_journeys.specs.Chains.{count_some}
+use Rattle.vg_journeys.specs.Ended.{Ended, ended_by, counted_visits, drop_visits}
+use Rattle.vg_journeys.specs.Trips.{Arrival, worker_of, logged_by, IsInTime}
+use Rattle.vg_journeys.specs.Accounts.{Account, HandoffFrame, came, is_drawn}
+use Rattle.vg_journeys.specs.Turns.{Settled, settled_log, settled_sent, settled_noted, arrival_is_of, IsSoundArrival, ComesFrom, MayArrive, IsTurn}
 use Rattle.vg_dispatch.specs.declared.underway.Work.{Work}
 use Rattle.vg_dispatch.specs.declared.sent.SentEntry.{SentEntry}
-use Rattle.vg_dispatch.specs.SentEntries.{sent_by, AreWithin}
-use Rattle.vg_dispatch.specs.Ended.{Ended, ended_by, counted_visits, drop_visits}
-use Rattle.vg_dispatch.specs.Progress.{Progress, captured_bytes, begun, draws, IsAlone, AreInRange, IsOwnCapture}
-use Rattle.vg_dispatch.specs.Round.{IsRound, EndsHere, own_leg, own_ends, own_visits, legs_under}
-use Rattle.vg_dispatch.specs.Underway.{Setting, Weights, IsSetting, alone, way_weight, counts_from, live_at, drawn_owed}
+use Rattle.vg_dispatch.specs.SentEntries.{sent_by, sent_size, entry_of, AreWithin}
+use Rattle.vg_dispatch.specs.Round.{run_in, place_in}
+use Rattle.vg_dispatch.specs.Underway.{Setting, Weights, IsSetting, way_weight, counts_from, live_at, arrival_way, legs_at, arrival_owed}
 use Rattle.vg_dispatch.specs.Places.{same_one, times_waiting}
-use Rattle.vg_dispatch.specs.Traced.{IsTraced, IsNotes, drawn_notes, all_visits}
-use Rattle.vg_dispatch.specs.Works.{total, IsHeld, Advances, Exchanges, TakesAll, by_bytes, by_visits}
-use Rattle.vg_dispatch.specs.Draws.{IsReady, drawn_bytes}
-use Rattle.vg_dispatch.specs.Rest.{progress_of, numbered_from, IsAtRest, IsNew}
+use Rattle.vg_dispatch.specs.Traced.{IsTraced, IsNotes, arrival_nodes, arrival_notes, seen, with_refusals}
+use Rattle.vg_dispatch.specs.Works.{total, IsHeld, Advances, Exchanges, sent_bytes_of, sent_len, ends_of, refused_visits, logged_count, by_bytes, by_visits}
+use Rattle.vg_dispatch.specs.Hands.{Delivers, IsDispatched}
+use Rattle.vg_dispatch.specs.Draws.{IsReady, IsEntered, IsUnderway, arrival_bytes}
+use Rattle.vg_dispatch.specs.Rest.{IsAtRest, IsNew}
 use Rattle.vg_dispatch.proofs.SumLemmas.{sum_from_none, sum_by_same, sum_by_none, counts_from_none, counts_from_at}
-use Rattle.vg_dispatch.proofs.WorkLemmas.{total_of, fates_grow, advances_then}
-use Rattle.vg_dispatch.proofs.TraceLemmas.{notes_below, traced_over}
-use Rattle.vg_dispatch.proofs.NextLemmas.{numbers_below}
-use Rattle.vg_dispatch.proofs.KeptLemmas.{drawn_way, drawn_here}
-use Rattle.vg_dispatch.proofs.DrawLemmas.{nothing_waiting, visits_so_far, bytes_so_far, sum_lengths}
+use Rattle.vg_dispatch.proofs.WorkLemmas.{total_of, fates_grow, advances_then, advances_of, exchanges_then, refused_none, refused_most, logged_most, logged_of}
+use Rattle.vg_dispatch.proofs.TraceLemmas.{traced_over}
+use Rattle.vg_dispatch.proofs.EnterTraceLemmas.{once_is}
+use Rattle.vg_dispatch.proofs.KeptLemmas.{came_way}
+use Rattle.vg_dispatch.proofs.DrawLemmas.{nothing_waiting, visits_so_far, bytes_so_far, sum_lengths, entered_none}
 
--- numbered packets with one more
-enumerate_push : {X : Type 0} (n : ℕ) (xs : List X) (y : X) → enumerate_from n (xs ++ y ∷ []) ≡ enumerate_from n xs ++ (n + length xs, y) ∷ []
-enumerate_push {X} n [] y = let pair : ℕ → List (ℕ × X) = λ k. (k, y) ∷ [] in ap pair (omega arith)
-enumerate_push {X} n (x ∷ xs) y =
-    let pair : ℕ → List (ℕ × X) = λ k. (n, x) ∷ (enumerate_from (n + 1) xs ++ (k, y) ∷ []) in
-    ap (λ zs. (n, x) ∷ zs) (enumerate_push (n + 1) xs y) ∙ ap pair (omega arith)
+-- and none came yet
+abbrev pub underway_none : (s : Setting) (arrivals : List Arrival) (w : Work) (cache : CacheBook) → IsReady arrivals w cache → IsUnderway s arrivals w cache
+underway_none s arrivals w cache ready = record { before = []; start = w; start_cache = cache; ready = ready; entered = entered_none s arrivals w cache ready }
 
-pub numbered_more : (mark k : ℕ) (packets : List Captured) (captured : Captured) (bytes : List ℕ) → k < length packets → captured ≡ get_or packets k captured → bytes ≡ captured.bytes
-    → numbered_from mark (take (k + 1) packets) ≡ numbered_from mark (take k packets) ++ (mark + k, bytes) ∷ []
-numbered_more mark k packets captured bytes inside at is =
-    let f : Captured → List ℕ = λ c. c.bytes in
-    let pair : List ℕ → List (ℕ × List ℕ) = λ bs. numbered_from mark (take k packets) ++ (mark + k, bs) ∷ [] in
-    let place : ℕ → List (ℕ × List ℕ) = λ n. numbered_from mark (take k packets) ++ (mark + n, captured.bytes) ∷ [] in
-    ap (numbered_from mark) (take_more packets k captured inside)
-    ∙ ap (λ c. numbered_from mark (take k packets ++ c ∷ [])) (sym at)
-    ∙ ap (enumerate_from mark) (map_push f (take k packets) captured)
-    ∙ enumerate_push mark (map f (take k packets)) (f captured)
-    ∙ ap place (length-map (take k packets) f ∙ front k packets inside)
-    ∙ ap pair (sym is)
+none_of_live : (o : Option Contents) → ◌≡◌ {A = ℕ} (cond (is_some o) 1 0) 0 → o ≡ None
+none_of_live None h = refl
+none_of_live (Some c) h = absurd (omega (arith, h))
+
+-- nothing waits, so no index has a buffer
+none_left : (s : Setting) (w : Work) → IsHeld s 0 w [] → IsNothingPending w.pending → (i : ℕ) → buffer_at w.memory i ≡ None
+none_left s w held none i =
+    let places : times_waiting i w.pending + 0 ≡ live_at w.memory i = held.places i in
+    let idle : times_waiting i w.pending ≡ 0 = sum_from_none (λ node. same_one i) 0 w.pending none in
+    none_of_live (buffer_at w.memory i) (omega (arith, places, idle))
+
+-- nothing waits, so nothing is in the memory
+pub no_buffer_left : (s : Setting) (w : Work) → IsHeld s 0 w [] → IsNothingPending w.pending → count w.memory ≡ 0
+no_buffer_left s w held none =
+    let all_of : pending_count w.pending + 0 ≡ count w.memory = held.count_is in
+    let pending_none = sum_lengths w.pending none in
+    omega (arith, all_of, pending_none)
+
+-- a whole round: these packets came, and were dispatched until none waited
+pub record IsOver (s : Setting) (slots : ℕ) (lossless : Bool) (arrivals : List Arrival) (old : Work) (old_cache : CacheBook) (old_put : List (List HandoffFrame)) (new : Work) (new_cache : CacheBook) (new_put : List (List HandoffFrame)) : Type 0 where
+  pub ready : IsReady arrivals old old_cache
+  pub held : IsHeld s 0 new []
+  pub none : IsNothingPending new.pending
+  pub settled : List Settled
+  pub advances : Advances s 0 arrivals settled old [] new []
+  pub exchanges : Exchanges arrivals settled old_cache new_cache
+  pub delivers : Delivers s slots lossless settled old_put new_put
+  pub sound : AllByRecursion IsSoundArrival arrivals
+  pub from : AllByRecursion (ComesFrom s.graph) arrivals
+  pub size : length new.trace ≡ length old.trace
+  pub is_notes : IsNotes new.trace
+  pub notes : (number leg : ℕ) → number < length old.trace → sum_by (arrival_is_of number leg) arrivals ≤ 1 → (0 < sum_by (arrival_is_of number leg) arrivals → nodes_of number leg old.trace ≡ [])
+      → nodes_of number leg new.trace ≡ nodes_of number leg old.trace ++ (flat_map (arrival_notes s number leg) arrivals ++ flat_map (settled_noted number leg) settled)
+
+pub round_over : (s : Setting) (slots : ℕ) (lossless : Bool) (arrivals : List Arrival) (old mid new : Work) (old_cache mid_cache new_cache : CacheBook) (old_put new_put : List (List HandoffFrame)) → IsReady arrivals old old_cache → IsEntered s arrivals old old_cache mid mid_cache
+    → IsDispatched s slots lossless mid mid_cache old_put new new_cache new_put → IsNothingPending new.pending → IsOver s slots lossless arrivals old old_cache old_put new new_cache new_put
+round_over s slots lossless arrivals old mid new old_cache mid_cache new_cache old_put new_put ready entered done none =
+    let same : arrivals ++ [] ≡ arrivals = append-nil arrivals in
+    let all : Advances s 0 (arrivals ++ []) (entered.settled ++ done.settled) old [] new [] = advances_then s 0 arrivals [] entered.settled done.settled old mid new [] [] [] entered.advances done.advances in
+    let moved : Exchanges (arrivals ++ []) (entered.settled ++ done.settled) old_cache new_cache = exchanges_then arrivals [] entered.settled done.settled old_cache mid_cache new_cache entered.exchanges done.exchanges in
+    let traced : IsTraced s (with_refusals done.settled (seen s old.trace arrivals arrivals)) (length old.trace) 0 new [] = done.traced (seen s old.trace arrivals arrivals) (length old.trace) entered.traced in
+    record {
+      ready = ready;
+      held = done.steady.held;
+      none = none;
+      settled = entered.settled ++ done.settled;
+      advances = advances_of s 0 (arrivals ++ []) arrivals (entered.settled ++ done.settled) old new same all;
+      exchanges = subst (λ es. Exchanges es (entered.settled ++ done.settled) old_cache new_cache) same moved;
+      delivers = delivers_then s slots lossless entered.settled done.settled old_put old_put new_put (delivers_nothing s slots lossless entered.settled old_put entered.here) done.delivers;
+      sound = entered.sound;
+      from = entered.from;
+      size = traced.size;
+      is_notes = traced.is_notes;
+      notes = λ number leg inside few first.
+          let yes = once_is (sum_by (arrival_is_of number leg) arrivals) (length (nodes_of number leg old.trace)) few (λ some. ap length (first some)) in
+          traced_over s (with_refusals done.settled (seen s old.trace arrivals arrivals)) (length old.trace) new number leg (none_left s new done.steady.held none) inside yes traced
+          ∙ append_assoc (nodes_of number leg old.trace) (flat_map (arrival_notes s number leg) arrivals) (flat_map (settled_noted number leg) done.settled)
+          ∙ ap (λ ns. nodes_of number leg old.trace ++ (flat_map (arrival_notes s number leg) arrivals ++ ns))
+          (sym (flat_map-append (settled_noted number leg) entered.settled done.settled
+          ∙ ap (λ ns. ns ++ flat_map (settled_noted number leg) done.settled) (entered.nothing_refused number leg)));
+    }
+
+-- at the end all that is counted came
+pub all_counted : (s : Setting) (slots : ℕ) (lossless : Bool) (t : Weights) (arrivals : List Arrival) (old new : Work) (old_cache new_cache : CacheBook) (old_put new_put : List (List HandoffFrame)) → (over : IsOver s slots lossless arrivals old old_cache old_put new new_cache new_put)
+    → sum_by t.ends (ends_of over.settled) + counts_from t.visits 0 new.counts.visits ≡ counts_from t.visits 0 old.counts.visits + sum_by (arrival_owed s t) arrivals + refused_visits t.visits over.settled
+all_counted s slots lossless t arrivals old new old_cache new_cache old_put new_put over =
+    let a = over.advances in
+    let same : total s t new (ends_of over.settled) + 0 ≡ total s t old [] + 0 + sum_by (arrival_owed s t) arrivals + refused_visits t.visits over.settled = a.same t in
+    let t1 = total_of s t new (ends_of over.settled) in let t2 = total_of s t old [] in
+    let idle = nothing_waiting s t old.memory old.pending over.ready.none in
+    let done = nothing_waiting s t new.memory new.pending over.none in
+    omega (arith, same, t1, t2, idle, done)
+
+-- each packet that is sent is logged, and what isn't logged goes on
+sent_logged : (x : Settled) → length (option_to_list (settled_sent x)) ≤ length (option_to_list (settled_log x))
+sent_logged x = by x.ended.outcome x.refused
   where
-    front : (n : ℕ) (xs : List Captured) → n < length xs → length (take n xs) ≡ n
-    front n xs h = (let e = length-take n xs in omega (arith, e, h))
+    by : (outcome : Outcome) (refused : Option ℕ) → length (option_to_list (sent_as x.ended.contents.packet.number x.ended.contents.packet.bytes outcome)) ≤ length (option_to_list (logged_by x.ended.contents outcome refused))
+    by (Sent interface) refused = omega arith
+    by (Dropped node error) refused = omega arith
+    by (Handed node worker) None = omega arith
+    by (Handed node worker) (Some count) = omega arith
 
-pub numbered_all : (mark k : ℕ) (packets : List Captured) → length packets ≤ k → numbered_from mark (take k packets) ≡ numbered_from mark packets
-numbered_all mark k packets past = ap (numbered_from mark) (take_all k packets past)
+length_filter : {X Y : Type 0} (f : X → Option Y) (x : X) (xs : List X) → length (filter_map f (x ∷ xs)) ≡ length (option_to_list (f x)) + length (filter_map f xs)
+length_filter {X} {Y} f x xs = by (f x)
+  where
+    by : (o : Option Y) → length (cons_option o (filter_map f xs)) ≡ length (option_to_list o) + length (filter_map f xs)
+    by None = omega arith
+    by (Some y) = omega arith
 
-pub numbered_length : (mark : ℕ) (packets : List Captured) → length (numbered_from mark packets) ≡ length packets
-numbered_length mark packets = length-enumerate_from mark (map (λ (c : Captured). c.bytes) packets) ∙ length-map packets (λ (c : Captured). c.bytes)
+pub sent_most : (xs : List Settled) → length (filter_map settled_sent xs) ≤ logged_count xs
+sent_most [] = omega arith
+sent_most (x ∷ xs) =
+    let rest = sent_most xs in let one = sent_logged x in
+    omega (arith, rest, one, length_filter settled_sent x xs, length_filter settled_log x xs)
 
-pub numbered_front : (mark k : ℕ) (packets : List Captured) → k < length packets → length (numbered_from mark (take k packets)) < length (numbered_from mark packets)
-numbered_front mark k packets inside =
-    let e1 = numbered_length mark (take k packets) in let e2 = numbered_length mark packets in let e3 = length-take k packets in
-    omega (arith, e1, e2, e3, inside)
+-- the bytes of those that are sent
+sent_weight : (xs : List Settled) → sum_by sent_size (filter_map settled_sent xs) ≡ sum_by sent_len (ends_of xs)
+sent_weight [] = refl
+sent_weight (x ∷ xs) =
+    let rest = sent_weight xs in
+    by x.ended.outcome (filter_map settled_sent xs) (sum_by sent_len (ends_of xs)) rest ∙ sym (sum_by-cons sent_len x.ended (ends_of xs))
+  where
+    by : (outcome : Outcome) (more : List (ℕ × List ℕ)) (n : ℕ) → sum_by sent_size more ≡ n
+        → sum_by sent_size (cons_option (sent_as x.ended.contents.packet.number x.ended.contents.packet.bytes outcome) more) ≡ sent_bytes_of x.ended.contents.packet.bytes outcome + n
+    by (Sent interface) more n e = let s = sum_by-cons sent_size (x.ended.contents.packet.number, x.ended.contents.packet.bytes) more in omega (arith, s, e)
+    by (Dropped node error) more n e = omega (arith, e)
+    by (Handed node worker) more n e = omega (arith, e)
 
-pub bytes_more : (k total : ℕ) (packets : List Captured) (captured : Captured) (bytes : List ℕ) → k < length packets → captured ≡ get_or packets k captured → bytes ≡ captured.bytes
-    → total ≡ captured_bytes (take k packets) → total + length bytes ≡ captured_bytes (take (k + 1) packets)
-bytes_more k total packets captured bytes inside at is so_far =
-    let more = sum_by_more (λ (c : Captured). length c.bytes) packets k captured inside in
-    let here = ap (λ (c : Captured). length c.bytes) at in
-    let size = ap length is in
-    omega (arith, more, here, size, so_far)
+-- at rest again
+pub rest_after : (s : Setting) (slots : ℕ) (lossless : Bool) (packets bytes came own left n drawn weight new_left : ℕ) (arrivals : List Arrival) (old new : Work) (old_cache new_cache : CacheBook) (old_put new_put : List (List HandoffFrame)) → IsSetting s
+    → IsAtRest packets bytes came own left old → length arrivals ≡ n → arrival_bytes arrivals ≤ weight → drawn ≤ own → came + n + (own - drawn) ≤ 4 * packets → vec_len old.fates + n + (own - drawn) ≤ packets
+    → vec_len old.bytes + weight + new_left ≤ bytes → IsOver s slots lossless arrivals old old_cache old_put new new_cache new_put → IsAtRest packets bytes (came + n) (own - drawn) new_left new
+rest_after s slots lossless packets bytes came own left n drawn weight new_left arrivals old new old_cache new_cache old_put new_put ok rest size heavy part came_few within fits over =
+    let a = over.advances in
+    let live = a.live in
+    let empty = rest.no_buffer in
+    let held = over.held in
+    let gone : count new.memory ≡ 0 = no_buffer_left s new held over.none in
+    let grow = fates_grow s 0 arrivals over.settled old new [] [] a in
+    let logged = logged_most over.settled in
+    record {
+      nodes = held.nodes;
+      none = over.none;
+      empty = none_left s new held over.none;
+      no_buffer = gone;
+      visits = held.visits;
+      sends = held.sends;
+      whole = held.whole;
+      within = held.within;
+      few = rest.few;
+      came_few = came_few;
+      logged = omega (arith, grow, logged, live, gone, empty, size, within);
+      listed = (let h = rest.listed in let more = sent_most over.settled in
+          let e : length (sent_by new.entries.items new.bytes.items) ≡ length (sent_by old.entries.items old.bytes.items) + length (filter_map settled_sent over.settled) =
+          ap length a.sent ∙ length-append (sent_by old.entries.items old.bytes.items) (filter_map settled_sent over.settled) in
+          let e1 = length-map new.entries.items (entry_of new.bytes.items) in let e2 = length-map old.entries.items (entry_of old.bytes.items) in
+          let v1 = new.entries.ok.0 in let v2 = old.entries.ok.0 in
+          omega (arith, h, more, e, e1, e2, v1, v2, grow));
+      fates = (let h = rest.fates in let cap = a.room.0 in omega (arith, h, cap));
+      entries = (let h = rest.entries in let cap = a.room.1 in omega (arith, h, cap));
+      kept =
+          (let e = a.bytes in
+          let counted = all_counted s slots lossless by_bytes arrivals old new old_cache new_cache old_put new_put over in
+          let c1 = counts_from_none 0 new.counts.visits in let c2 = counts_from_none 0 old.counts.visits in
+          let none = refused_none over.settled in
+          let most = bytes_so_far s arrivals ok over.sound over.from in
+          omega (arith, e, counted, c1, c2, none, most, heavy, fits));
+      bytes_room = (let h = rest.bytes_room in let cap = a.room.2 in omega (arith, h, cap));
+      sent_is =
+          (let h = rest.sent_is in let e = ap (sum_by sent_size) a.sent in let n = a.bytes in
+          omega (arith, h, e, n, sum_by-append sent_size (sent_by old.entries.items old.bytes.items) (filter_map settled_sent over.settled), sent_weight over.settled));
+      visited = λ node.
+          (let h = rest.visited node in
+          let counted = all_counted s slots lossless (by_visits node) arrivals old new old_cache new_cache old_put new_put over in
+          let nothing_ended = sum_by_none {X = Ended} (ends_of over.settled) in
+          let here : counts_from (by_visits node).visits 0 new.counts.visits ≡ slice_index new.counts.visits node = counts_from_at node new.counts.visits in
+          let there : counts_from (by_visits node).visits 0 old.counts.visits ≡ slice_index old.counts.visits node = counts_from_at node old.counts.visits in
+          let refused = refused_most node over.settled in
+          let most = visits_so_far s node arrivals ok over.sound over.from in
+          omega (arith, h, counted, nothing_ended, here, there, most, refused, live, gone, empty, size));
+      dropped = λ node error. (let h = rest.dropped node error in let e = a.drops_most node error in omega (arith, h, e, live, gone, empty, size));
+      sent = λ interface. (let h = rest.sent interface in let e = a.sends interface in let most = logged_of (λ (f : Fate). is_sent_on interface f.end) over.settled in omega (arith, h, e, most, live, gone, empty, size));
+      is_notes = over.is_notes;
+    }
 
-pub bytes_front : (k : ℕ) (packets : List Captured) → captured_bytes (take k packets) ≤ captured_bytes packets
-bytes_front k packets = sum_by-take-le (λ (c : Captured). length c.bytes) packets k
-
-pub bytes_all : (k : ℕ) (packets : List Captured) → length packets ≤ k → captured_bytes (take k packets) ≡ captured_bytes packets
-bytes_all k packets past = ap captured_bytes (take_all k packets past)
-
-pub numbered_bytes : (mark : ℕ) (packets : List Captured) → drawn_bytes (numbered_from mark packets) ≡ captured_bytes packets
-numbered_bytes mark [] = refl
-numbered_bytes mark (c ∷ cs) =
-    let rest = numbered_bytes (mark + 1) cs in
-    omega (arith, rest, sum_by-cons (λ (p : ℕ × List ℕ). length p.1) (mark, c.bytes) (numbered_from (mark + 1) cs), sum_by-cons (λ (c : Captured). length c.bytes) c cs)
-
--- what holds of each number from here on
-pub numbered_from_on : (P : ℕ → Type 0) (mark : ℕ) (packets : List Captured) → ((n : ℕ) → mark ≤ n → P n) → AllByRecursion (λ (packet : ℕ × List ℕ). P packet.0) (numbered_from mark packets)
-numbered_from_on P mark [] all = tt
-numbered_from_on P mark (c ∷ cs) all = (all mark (omega arith), numbered_from_on P (mark + 1) cs (λ n on. all n (omega (arith, on))))
-
--- and of each number below those
-pub numbered_below : (mark most : ℕ) (packets : List Captured) → mark + length packets ≤ most → AllByRecursion (λ (packet : ℕ × List ℕ). packet.0 < most) (numbered_from mark packets)
-numbered_below mark most packets fits =
-    numbers_below mark most (map (λ (captured : Captured). captured.bytes) packets) (omega (arith, fits, length-map packets (λ (captured : Captured). captured.bytes)))
-
--- at rest there is room for a stretch of packets
-pub ready_of : (number packets mark left n : ℕ) (w : Work) (cache : CacheBook) (stretch : List Captured) → IsAtRest number packets mark left w → length stretch ≡ n → n ≤ 256 → vec_len w.fates + n ≤ packets → n ≤ cache.len
-    → cache.len ≤ most_cached → cache.allocated < 2 ^ 61 → cache.freed < 2 ^ 61 → captured_bytes stretch ≤ left → IsReady (numbered_from mark stretch) w cache
-ready_of number packets mark left n w cache stretch rest size few within buffers most allocated freed bytes =
-    let len : length (numbered_from mark stretch) ≡ n = numbered_length mark stretch ∙ size in
+-- at rest there is room for packets that come
+pub ready_of : (packets bytes came own left : ℕ) (arrivals : List Arrival) (w : Work) (cache : CacheBook) → IsAtRest packets bytes came own left w → length arrivals ≤ 2304 → vec_len w.fates + length arrivals ≤ packets → vec_len w.bytes + arrival_bytes arrivals ≤ bytes
+    → sum_by is_drawn arrivals ≤ cache.len → cache.len + length arrivals ≤ most_cached + sum_by is_drawn arrivals → cache.allocated < 2 ^ 61 → cache.freed < 2 ^ 61 → IsReady arrivals w cache
+ready_of packets bytes came own left arrivals w cache rest few within fits buffers cached allocated freed =
     let few_packets = rest.few in
+    let came_few = rest.came_few in
     record {
       nodes = rest.nodes;
       none = rest.none;
@@ -124,158 +230,103 @@ ready_of number packets mark left n w cache stretch rest size few within buffers
       sends = rest.sends;
       whole = rest.whole;
       within = rest.within;
-      few = omega (arith, len, few);
-      fates = (let cap = rest.fates in omega (arith, len, cap, within));
-      entries = (let cap = rest.entries in let listed = rest.listed in omega (arith, len, cap, listed, within));
-      bytes = (let cap = rest.bytes in let e = numbered_bytes mark stretch in omega (arith, cap, e, bytes));
-      can_visit = λ node. (let most_of = rest.visited node in omega (arith, len, most_of, within, few_packets));
-      can_drop = λ node error. (let most_of = rest.dropped node error in omega (arith, len, most_of, within, few_packets));
-      can_send = λ interface. (let most_of = rest.sent interface in omega (arith, len, most_of, within, few_packets));
-      buffers = (omega (arith, len, buffers), most);
+      few = few;
+      fates = (let cap = rest.fates in omega (arith, cap, within));
+      entries_room = (let cap = rest.entries in let listed = rest.listed in omega (arith, cap, listed, within));
+      bytes = (let cap = rest.bytes_room in omega (arith, cap, fits));
+      can_visit = λ node. (let most_of = rest.visited node in omega (arith, few, most_of, came_few, few_packets));
+      can_drop = λ node error. (let most_of = rest.dropped node error in omega (arith, few, most_of, came_few, few_packets));
+      can_send = λ interface. (let most_of = rest.sent interface in omega (arith, few, most_of, came_few, few_packets));
+      buffers = buffers;
+      cached = cached;
       allocated = allocated;
       freed = freed;
       is_notes = rest.is_notes;
-      unmet = numbered_from_on (λ n. (leg : ℕ) → nodes_of n leg w.trace ≡ []) mark stretch (λ n on leg. rest.unmet n leg on);
     }
 
-none_of_live : (o : Option Contents) → ◌≡◌ {A = ℕ} (cond (is_some o) 1 0) 0 → o ≡ None
-none_of_live None h = refl
-none_of_live (Some c) h = absurd (omega (arith, h))
-
--- a whole round: packets are drawn, and dispatched until none waits
-pub round_advances : (s : Setting) (packets : List (ℕ × List ℕ)) (old mid new : Work) → Advances s 0 packets old [] mid [] → Advances s 0 [] mid [] new [] → Advances s 0 packets old [] new []
-round_advances s packets old mid new one two =
-    subst (λ ps. Advances s 0 ps old [] new []) (append-nil packets) (advances_then s 0 packets [] old mid new [] [] [] one two)
-
--- at the end all that is counted was drawn
-all_counted : (s : Setting) (t : Weights) (all packets : List (ℕ × List ℕ)) (old new : Work) (cache : CacheBook) → IsReady all old cache → (a : Advances s 0 packets old [] new []) → IsNothingPending new.pending
-    → sum_by t.ends a.ended + counts_from t.visits 0 new.counts.visits ≡ counts_from t.visits 0 old.counts.visits + sum_by (drawn_owed s t) packets
-all_counted s t all packets old new cache ready a none =
-    let same : total s t new a.ended + 0 ≡ total s t old [] + 0 + sum_by (drawn_owed s t) packets = a.same t in
-    let t1 = total_of s t new a.ended in let t2 = total_of s t old [] in
-    let idle = nothing_waiting s t old.memory old.pending ready.none in
-    let done = nothing_waiting s t new.memory new.pending none in
-    omega (arith, same, t1, t2, idle, done)
-
--- nothing waits, so no index has a buffer
-none_left : (s : Setting) (w : Work) → IsHeld s 0 w [] → IsNothingPending w.pending → (i : ℕ) → buffer_at w.memory i ≡ None
-none_left s w held none i =
-    let places : times_waiting i w.pending + 0 ≡ live_at w.memory i = held.places i in
-    let idle : times_waiting i w.pending ≡ 0 = sum_from_none (λ node. same_one i) 0 w.pending none in
-    none_of_live (buffer_at w.memory i) (omega (arith, places, idle))
-
--- nothing is noted of numbers past those that are traced, nor of those that were not drawn
-past_notes : (number leg : ℕ) (notes : Notes) → length notes ≤ number → nodes_of number leg notes ≡ []
-past_notes number leg notes past = ap (λ row. get_or row leg []) (get_or_past notes number [] past)
-
-all_below : (mark number : ℕ) (packets : List (ℕ × List ℕ)) → mark ≤ number → AllByRecursion (λ (p : ℕ × List ℕ). p.0 < mark) packets → AllByRecursion (λ (p : ℕ × List ℕ). p.0 < number) packets
-all_below mark number [] on below = tt
-all_below mark number (p ∷ ps) on below = (let less = below.0 in omega (arith, on, less), all_below mark number ps on below.1)
-
--- at rest again
-pub rest_after : (s : Setting) (number packets mark left n bytes : ℕ) (drawn : List (ℕ × List ℕ)) (old new : Work) (cache : CacheBook) → IsSetting s → IsAtRest number packets mark left old → IsReady drawn old cache
-    → length drawn ≡ n → drawn_bytes drawn ≡ bytes → bytes ≤ left → vec_len old.fates + n ≤ packets → mark + n ≤ packets + number → AllByRecursion (λ (p : ℕ × List ℕ). AreBytes p.1) drawn
-    → AllByRecursion (λ (p : ℕ × List ℕ). p.0 < mark + n) drawn
-    → Advances s 0 drawn old [] new [] → IsHeld s 0 new [] → IsNothingPending new.pending → IsTraced s (all_visits s old.trace drawn) (length old.trace) 0 new [] → IsAtRest number packets (mark + n) (left - bytes) new
-rest_after s number packets mark left n bytes drawn old new cache ok rest ready size weight fits within at sound below a held none traced =
-    let live = a.live in
-    let empty = rest.no_buffer in
-    let pending_none = sum_lengths new.pending none in
-    let all_of : pending_count new.pending + 0 ≡ count new.memory = held.count_is in
-    let gone : count new.memory ≡ 0 = omega (arith, pending_none, all_of) in
-    let grow = fates_grow s 0 drawn old new [] [] a in
-    record {
-      nodes = held.nodes;
-      none = none;
-      empty = none_left s new held none;
-      no_buffer = gone;
-      visits = held.visits;
-      sends = held.sends;
-      whole = held.whole;
-      within = held.within;
-      few = rest.few;
-      at = at;
-      logged = ((let h = rest.logged.0 in omega (arith, h, grow, live, gone, empty, size)), omega (arith, grow, live, gone, empty, size, within));
-      listed = (let h = rest.listed in let e = a.entries in omega (arith, h, e, grow));
-      fates = (let h = rest.fates in let cap = a.room.0 in omega (arith, h, cap));
-      entries = (let h = rest.entries in let cap = a.room.1 in omega (arith, h, cap));
-      bytes =
-          (let h = rest.bytes in let cap = a.room.2 in let e = a.bytes in
-          let counted = all_counted s by_bytes drawn drawn old new cache ready a none in
-          let c1 = counts_from_none 0 new.counts.visits in let c2 = counts_from_none 0 old.counts.visits in
-          let most = bytes_so_far s drawn ok sound in
-          omega (arith, h, cap, e, counted, c1, c2, most, weight, fits));
-      visited = λ node.
-          (let h = rest.visited node in
-          let counted = all_counted s (by_visits node) drawn drawn old new cache ready a none in
-          let nothing_ended = sum_by_none {X = Ended} a.ended in
-          let here : counts_from (by_visits node).visits 0 new.counts.visits ≡ slice_index new.counts.visits node = counts_from_at node new.counts.visits in
-          let there : counts_from (by_visits node).visits 0 old.counts.visits ≡ slice_index old.counts.visits node = counts_from_at node old.counts.visits in
-          let most = visits_so_far s node drawn ok sound in
-          omega (arith, h, counted, nothing_ended, here, there, most, grow, live, gone, empty, size));
-      dropped = λ node error. (let h = rest.dropped node error in let e = a.drops_most node error in omega (arith, h, e, grow));
-      sent = λ interface. (let h = rest.sent interface in let e = a.sends interface in let most = count_by-le-length (λ (x : Ended). is_sent_on interface (end_of x.outcome)) a.ended in omega (arith, h, e, most, grow));
-      is_notes = traced.is_notes;
-      unmet = λ k leg on. elim (cases_lt k (length old.trace)) [
-        | inl inside ↦
-            traced_over s (all_visits s old.trace drawn) (length old.trace) new k leg (none_left s new held none) inside traced
-            ∙ ap (λ xs. xs ++ flat_map (drawn_notes s k leg) drawn) (rest.unmet k leg (omega (arith, on)))
-            ∙ notes_below s k leg drawn (all_below (mark + n) k drawn on below)
-        | inr past ↦ past_notes k leg new.trace (let same = traced.size in omega (arith, same, past))
-      ];
-    }
-
--- what each packet's leg adds
-ends_weight : (visit : Visit) (g : Graph) (generation : ℕ) (f : Ended → ℕ) (packet : ℕ × List ℕ) → drawn_owed (alone visit g generation) (record { visits = λ n. 0; ends = f }) packet ≡ own_ends visit g generation f packet
-ends_weight visit g generation f packet = by (own_leg visit g packet)
+-- what a packet's leg adds
+pub count_end : (s : Setting) (f : Ended → ℕ) (e : Arrival) → arrival_owed s (record { visits = λ n. 0; ends = f }) e ≡ count_some f (option_map (ended_by (legs_at s e)) (arrival_way s e))
+count_end s f e = by (arrival_way s e)
   where
-    by : (o : Option Way) → unwrap_or (option_map (way_weight (record { visits = λ n. 0; ends = f }) (legs_under generation)) o) 0 ≡ unwrap_or (option_map (λ way. f (ended_by (legs_under generation) way)) o) 0
+    by : (o : Option Way) → unwrap_or (option_map (way_weight (record { visits = λ n. 0; ends = f }) (legs_at s e)) o) 0 ≡ count_some f (option_map (ended_by (legs_at s e)) o)
     by None = refl
     by (Some way) = omega (arith, sum_by_none way.visits, sum_by_none (drop_visits way.outcome))
 
-visits_weight : (visit : Visit) (g : Graph) (generation node : ℕ) (packet : ℕ × List ℕ) → drawn_owed (alone visit g generation) (by_visits node) packet ≡ own_visits visit g node packet
-visits_weight visit g generation node packet = by (own_leg visit g packet)
+pub count_visits : (s : Setting) (node : ℕ) (e : Arrival) → arrival_owed s (by_visits node) e ≡ count_by (λ n. n == node) (arrival_nodes s e)
+count_visits s node e = by (arrival_way s e)
   where
-    by : (o : Option Way) → unwrap_or (option_map (way_weight (by_visits node) (legs_under generation)) o) 0 ≡ unwrap_or (option_map (λ way. count_by (λ n. n == node) (counted_visits way)) o) 0
+    by : (o : Option Way) → unwrap_or (option_map (way_weight (by_visits node) (legs_at s e)) o) 0 ≡ count_by (λ n. n == node) (unwrap_or (option_map counted_visits o) [])
     by None = refl
     by (Some way) = omega (arith, sum_by-append (λ n. if n == node then 1 else 0) way.visits (drop_visits way.outcome))
 
-all_here : (visit : Visit) (g : Graph) (generation : ℕ) (packets : List (ℕ × List ℕ)) → IsSetting (alone visit g generation) → AllByRecursion (λ (p : ℕ × List ℕ). AreBytes p.1) packets → AllByRecursion (EndsHere visit g) packets
-all_here visit g generation [] ok sound = tt
-all_here visit g generation (p ∷ ps) ok sound =
-    let way = drawn_way (alone visit g generation) p ok sound.0 in
-    ((way.0, way.1, drawn_here visit g p way.0 way.1), all_here visit g generation ps ok sound.1)
+pub sum_ends : (f : Ended → ℕ) (xs : List Settled) → sum_by f (ends_of xs) ≡ sum_by (λ (x : Settled). f x.ended) xs
+sum_ends f [] = refl
+sum_ends f (x ∷ xs) = let rest = sum_ends f xs in omega (arith, rest, sum_by-cons f x.ended (ends_of xs), sum_by-cons (λ (x : Settled). f x.ended) x xs)
 
--- what a round comes to
-pub round_of : (visit : Visit) (g : Graph) (generation number : ℕ) (options : Options) (packets mark left new_mark new_left : ℕ) (drawn : List (ℕ × List ℕ)) (old new : Work) (cache : CacheBook) → IsSetting (alone visit g generation)
-    → IsReady drawn old cache → AllByRecursion (λ (p : ℕ × List ℕ). AreBytes p.1) drawn → Advances (alone visit g generation) 0 drawn old [] new [] → IsHeld (alone visit g generation) 0 new [] → IsNothingPending new.pending
-    → IsTraced (alone visit g generation) (all_visits (alone visit g generation) old.trace drawn) (length old.trace) 0 new [] → IsRound visit g generation drawn (progress_of number options packets mark left old) (progress_of number options packets new_mark new_left new)
-round_of visit g generation number options packets mark left new_mark new_left drawn old new cache ok ready sound a held none traced =
-    let s : Setting = alone visit g generation in
+pub may_enter : (s : Setting) (graphs : List Graph) (slots : ℕ) (first : ℕ → ℕ) (packets : List (List ℕ)) (arrivals : List Arrival) → IsSetting s → AllByRecursion IsSoundArrival arrivals → AllByRecursion (ComesFrom s.graph) arrivals
+    → AllByRecursion (λ e. s.worker ≡ worker_of s.workers e) arrivals → AllByRecursion (IsInTime first s.generation) arrivals → AllByRecursion (MayArrive (run_in s graphs slots first packets) (place_in s)) arrivals
+may_enter s graphs slots first packets [] ok sound from own in_time = tt
+may_enter s graphs slots first packets (e ∷ es) ok sound from own in_time =
+    let way = came_way s e ok sound.0 from.0 in
+    (record { own = own.0; in_time = in_time.0; sound = sound.0; way = way.0; is_way = way.1 }, may_enter s graphs slots first packets es ok sound.1 from.1 own.1 in_time.1)
+
+-- what a worker has done so far, by what it has kept
+abbrev pub account_with : (worker mark : ℕ) (taken put : List (List HandoffFrame)) → Work → CacheBook → Account
+account_with worker mark taken put w cache = record {
+  worker = worker;
+  mark = mark;
+  taken = taken;
+  put = put;
+  log = w.fates.items;
+  sent = sent_by w.entries.items w.bytes.items;
+  counts = w.counts;
+  trace = w.trace;
+  allocated = cache.allocated;
+  freed = cache.freed;
+}
+
+-- a round is a turn of each run whose packets may come so
+abbrev pub turn_of : (s : Setting) (lossless : Bool) (graphs : List Graph) (slots : ℕ) (first : ℕ → ℕ) (packets : List (List ℕ)) (mark new_mark : ℕ) (taken put new_taken new_put : List (List HandoffFrame)) (arrivals : List Arrival) (old new : Work) (old_cache new_cache : CacheBook)
+    → IsSetting s → IsOver s slots lossless arrivals old old_cache put new new_cache new_put → AllByRecursion (λ e. s.worker ≡ worker_of s.workers e) arrivals → AllByRecursion (IsInTime first s.generation) arrivals
+    → ((count : Arrival → ℕ) → came (run_in s graphs slots first packets) count (account_with s.worker mark taken put old old_cache) + sum_by count arrivals
+    ≡ came (run_in s graphs slots first packets) count (account_with s.worker new_mark new_taken new_put new new_cache))
+    → IsTurn (run_in s graphs slots first packets) (place_in s) arrivals (account_with s.worker mark taken put old old_cache) (account_with s.worker new_mark new_taken new_put new new_cache)
+turn_of s lossless graphs slots first packets mark new_mark taken put new_taken new_put arrivals old new old_cache new_cache ok over own in_time entered =
+    let a = over.advances in
     record {
-      here = all_here visit g generation drawn ok sound;
-      bytes = sound;
-      ends = a.ended;
+      worker = refl;
+      same_worker = refl;
+      may = may_enter s graphs slots first packets arrivals ok over.sound over.from own in_time;
+      entered = entered;
+      settled = over.settled;
       same = λ f.
           let t : Weights = record { visits = λ n. 0; ends = f } in
-          let counted = all_counted s t drawn drawn old new cache ready a none in
+          let counted = all_counted s slots lossless t arrivals old new old_cache new_cache put new_put over in
           let c1 = counts_from_none 0 new.counts.visits in let c2 = counts_from_none 0 old.counts.visits in
-          let each = sum_by_same (drawn_owed s t) (own_ends visit g generation f) drawn (ends_weight visit g generation f) in
-          omega (arith, counted, c1, c2, each);
+          let none = refused_none over.settled in
+          let each = sum_by_same (arrival_owed s t) (λ e. count_some f (option_map (ended_by (legs_at s e)) (arrival_way s e))) arrivals (count_end s f) in
+          let ends = sum_ends f over.settled in
+          omega (arith, counted, c1, c2, none, each, ends);
+      may_be = a.may_be;
+      refusals = refusals_of s slots lossless put new_put over.settled over.delivers.counts;
+      went = over.delivers.went;
+      queues = queues_grow s slots lossless over.settled put new_put over.delivers;
       log = a.fates;
       sent = a.sent;
       size = a.size;
       visits = λ node.
-          let counted = all_counted s (by_visits node) drawn drawn old new cache ready a none in
-          let nothing_ended = sum_by_none {X = Ended} a.ended in
+          let counted = all_counted s slots lossless (by_visits node) arrivals old new old_cache new_cache put new_put over in
+          let nothing_ended = sum_by_none {X = Ended} (ends_of over.settled) in
           let c1 : counts_from (by_visits node).visits 0 new.counts.visits ≡ slice_index new.counts.visits node = counts_from_at node new.counts.visits in
           let c2 : counts_from (by_visits node).visits 0 old.counts.visits ≡ slice_index old.counts.visits node = counts_from_at node old.counts.visits in
-          let each = sum_by_same (drawn_owed s (by_visits node)) (own_visits visit g node) drawn (visits_weight visit g generation node) in
+          let each = sum_by_same (arrival_owed s (by_visits node)) (λ e. count_by (λ n. n == node) (arrival_nodes s e)) arrivals (count_visits s node) in
           omega (arith, counted, nothing_ended, c1, c2, each);
       drops = a.drops;
       sends = a.sends;
-      traced = traced.size;
-      notes = λ k leg inside. traced_over s (all_visits s old.trace drawn) (length old.trace) new k leg (none_left s new held none) inside traced;
+      traced = over.size;
+      notes = over.notes;
+      allocated = over.exchanges.allocated;
+      freed = over.exchanges.freed;
     }
 
 -- a worker that is new is at rest
@@ -299,16 +350,11 @@ new_notes zero k inside = absurd (omega (arith, inside))
 new_notes (suc n) zero inside = refl
 new_notes (suc n) (suc k) inside = new_notes n k (omega (arith, inside))
 
-none_noted : (n k leg : ℕ) → nodes_of k leg (nothing_noted n) ≡ []
-none_noted zero k leg = refl
-none_noted (suc n) zero leg = none_replicated count_of_legs leg
-none_noted (suc n) (suc k) leg = none_noted n k leg
-
 empty_len : {X : Type 0} (v : Vec X Global) → v.items ≡ [] → vec_len v ≡ 0
 empty_len v none = v.ok.0 ∙ ap length none
 
-pub rest_of_new : (number packets bytes left traced : ℕ) (w : Work) → IsNew packets bytes traced w → packets ≤ 65536 → left ≤ bytes → IsAtRest number packets number left w
-rest_of_new number packets bytes left traced w new few fits =
+pub rest_of_new : (packets bytes own left traced : ℕ) (w : Work) → IsNew packets bytes traced w → packets ≤ 65536 → own ≤ packets → left ≤ bytes → IsAtRest packets bytes 0 own left w
+rest_of_new packets bytes own left traced w new few some fits =
     let fates = empty_len w.fates new.fates in
     let entries = empty_len w.entries new.entries in
     let no_bytes = empty_len w.bytes new.bytes in
@@ -322,144 +368,16 @@ rest_of_new number packets bytes left traced w new few fits =
       whole = subst IsWhole (sym new.counts) (record { rows = refl; errors = All-replicate (λ row. length row ≡ count_of_errors) most_nodes (replicate count_of_errors 0) refl });
       within = subst (λ (es : List SentEntry). AreWithin es w.bytes.items) (sym new.entries) (λ k d h. absurd (omega (arith, h)));
       few = few;
-      at = omega arith;
-      logged = (omega (arith, fates), omega (arith, fates));
+      came_few = omega (arith, some);
+      logged = omega (arith, fates, some);
       listed = omega (arith, fates, entries);
       fates = new.fates_room;
       entries = new.entries_room;
-      bytes = (let room = new.bytes_room in omega (arith, room, no_bytes, fits));
+      kept = omega (arith, no_bytes, fits);
+      bytes_room = new.bytes_room;
+      sent_is = (let e : sum_by sent_size (sent_by w.entries.items w.bytes.items) ≡ 0 = ap (λ (es : List SentEntry). sum_by sent_size (sent_by es w.bytes.items)) new.entries in omega (arith, e, no_bytes));
       visited = λ node. (let none : slice_index w.counts.visits node ≡ 0 = ap (λ (t : Tally). slice_index t.visits node) new.counts ∙ zero_replicated most_nodes node in omega (arith, none));
       dropped = λ node error. (let none : drops_at node error w.counts.drops ≡ 0 = ap (λ (t : Tally). drops_at node error t.drops) new.counts ∙ rows_replicated most_nodes node error in omega (arith, none));
       sent = λ interface. (let none : slice_index w.counts.sends interface ≡ 0 = ap (λ (t : Tally). slice_index t.sends interface) new.counts ∙ zero_replicated most_interfaces interface in omega (arith, none));
       is_notes = subst (λ t. IsNotes t) (sym new.trace) (new_notes traced);
-      unmet = λ k leg on. ap (nodes_of k leg) new.trace ∙ none_noted traced k leg;
     }
-
--- the bytes from a number on
-pub bytes_from : (number : ℕ) (packets : List Captured) → captured_bytes (drop (min number (length packets)) packets) ≡ captured_bytes (drop number packets)
-bytes_from number packets = elim (cases_lt number (length packets)) [
-  | inl below ↦ ap (λ k. captured_bytes (drop k packets)) (omega (arith, below))
-  | inr past ↦
-      ap captured_bytes (drop_all (min number (length packets)) packets (omega (arith, past))) ∙ ap captured_bytes (sym (drop_all number packets past))
-]
-
-pub begun_of : (number : ℕ) (options : Options) (capture : Capture) (left bytes traced : ℕ) (w : Work) → IsNew (length capture.packets) bytes traced w → traced ≡ min options.trace (length capture.packets) → left ≡ captured_bytes (drop number capture.packets)
-    → progress_of number options (length capture.packets) number left w ≡ begun number options capture
-begun_of number options capture left bytes traced w new so_many is =
-    let sent : sent_by w.entries.items w.bytes.items ≡ [] = ap (λ es. sent_by es w.bytes.items) new.entries in
-    let trace : w.trace ≡ nothing_noted (min options.trace (length capture.packets)) = new.trace ∙ ap nothing_noted so_many in
-    cc (is, sent, new.fates, new.counts, trace)
-
--- a round begins with so many packets
-pub record BeginsRound (p : Progress) (capture : Capture) (limit : ℕ) (cache : CacheBook) (number packets mark left n : ℕ) (w : Work) : Type 0 where
-  pub alone : number ≡ 0
-  pub packets_are : packets ≡ length capture.packets
-  pub left_is : left ≡ captured_bytes (drop mark capture.packets)
-  pub few : n ≤ 256
-  pub buffers : n ≤ cache.len
-  pub room : vec_len w.fates + n ≤ packets
-  pub within : mark + n ≤ length capture.packets
-  pub draws_so_many : draws p limit cache.len ≡ n
-
-pub begins_round : (p : Progress) (capture : Capture) (limit : ℕ) (cache : CacheBook) (number packets mark left n below buffers least : ℕ) (options : Options) (w : Work) → progress_of number options packets mark left w ≡ p → IsAlone p
-    → AreInRange p.options → IsOwnCapture capture p → limit ≤ length capture.packets → IsAtRest number packets mark left w → below ≡ limit - mark → buffers ≡ cache.len → least ≡ min below buffers → n ≡ min options.burst least
-    → BeginsRound p capture limit cache number packets mark left n w
-begins_round p capture limit cache number packets mark left n below buffers least options w is alone in_range own most rest e1 e2 e3 e4 =
-    let here : IsAlone (progress_of number options packets mark left w) = subst IsAlone (sym is) alone in
-    let mine : IsOwnCapture capture (progress_of number options packets mark left w) = subst (IsOwnCapture capture) (sym is) own in
-    let range : AreInRange options = subst (λ (q : Progress). AreInRange q.options) (sym is) in_range in
-    let zero_number : number ≡ 0 = here.number in
-    let burst : options.burst ≤ 256 = range.burst.1 in
-    let all : packets ≡ length capture.packets = mine.packets in
-    let at = rest.at in let logged = rest.logged.0 in let most_logged = rest.logged.1 in
-    record {
-      alone = zero_number;
-      packets_are = all;
-      left_is = mine.left;
-      few = omega (arith, e4, burst);
-      buffers = omega (arith, e4, e3, e2);
-      room = omega (arith, e4, e3, e1, logged, most_logged, most, all);
-      within = omega (arith, e4, e3, e1, at, zero_number, most, all);
-      draws_so_many =
-          ap (λ (q : Progress). draws q limit cache.len) (sym is)
-          ∙ ap (λ k. min options.burst (min (limit - mark) k)) (sym e2) ∙ ap (λ k. min options.burst (min k buffers)) (sym e1) ∙ ap (min options.burst) (sym e3) ∙ sym e4;
-    }
-
--- the stretch of the capture that it draws
-pub record IsStretch (capture : Capture) (number mark left n : ℕ) (w : Work) (cache : CacheBook) (stretch : List Captured) : Type 0 where
-  pub ready : IsReady (numbered_from mark stretch) w cache
-  pub size : length stretch ≡ n
-  pub is : stretch ≡ take n (drop mark capture.packets)
-  pub fits : captured_bytes stretch ≤ left
-  pub rest : left - captured_bytes stretch ≡ captured_bytes (drop (mark + n) capture.packets)
-
-pub stretch_of : (p : Progress) (capture : Capture) (limit : ℕ) (cache : CacheBook) (number packets mark left n : ℕ) (w : Work) (items stretch : List Captured) → IsAtRest number packets mark left w
-    → BeginsRound p capture limit cache number packets mark left n w → cache.len ≤ most_cached → cache.allocated < 2 ^ 61 → cache.freed < 2 ^ 61 → items ≡ capture.packets → stretch ≡ take n (drop mark items)
-    → IsStretch capture number mark left n w cache stretch
-stretch_of p capture limit cache number packets mark left n w items stretch at_rest begins most allocated freed is taken =
-    let f : Captured → ℕ = λ c. length c.bytes in
-    let part : stretch ≡ take n (drop mark capture.packets) = taken ∙ ap (λ xs. take n (drop mark xs)) is in
-    let within = begins.within in
-    let size : length stretch ≡ n = ap length part ∙ (let e1 = length-take n (drop mark capture.packets) in let e2 = length-drop mark capture.packets in omega (arith, e1, e2, within)) in
-    let whole : captured_bytes (take n (drop mark capture.packets)) + captured_bytes (drop n (drop mark capture.packets)) ≡ captured_bytes (drop mark capture.packets) = sum_by-take-drop f (drop mark capture.packets) n in
-    let behind : captured_bytes (drop n (drop mark capture.packets)) ≡ captured_bytes (drop (mark + n) capture.packets) = ap captured_bytes (drop-drop n mark capture.packets) ∙ ap (λ k. captured_bytes (drop k capture.packets)) (omega arith) in
-    let here : captured_bytes stretch ≡ captured_bytes (take n (drop mark capture.packets)) = ap captured_bytes part in
-    let all = begins.left_is in
-    let fits : captured_bytes stretch ≤ left = omega (arith, whole, here, all) in
-    record {
-      ready = ready_of number packets mark left n w cache stretch at_rest size begins.few begins.room begins.buffers most allocated freed fits;
-      size = size;
-      is = part;
-      fits = fits;
-      rest = omega (arith, whole, behind, here, all);
-    }
-
--- the cache after a round
-pub cache_after : (n k : ℕ) (old mid new : Work) (a b c : CacheBook) → Exchanges n old mid a b → Exchanges 0 mid new b c → count old.memory ≡ 0 → count new.memory ≡ 0 → k ≡ n
-    → c ≡ record a { allocated = a.allocated + k; freed = a.freed + k }
-cache_after n k old mid new a b c one two start end same =
-    let len : c.len ≡ a.len = (let e1 = one.len in let e2 = two.len in omega (arith, e1, e2, start, end)) in
-    let freed : c.freed ≡ a.freed + k = (let e1 = one.freed in let e2 = two.freed in omega (arith, e1, e2, start, end, same)) in
-    let allocated : c.allocated ≡ a.allocated + k = (let e1 = one.allocated in let e2 = two.allocated in omega (arith, e1, e2, same)) in
-    let taken : c.taken ≡ a.taken = two.taken ∙ one.taken in
-    let given : c.given ≡ a.given = two.given ∙ one.given in
-    let make : ℕ → ℕ → ℕ → ℕ → ℕ → CacheBook = λ l t v m f. record { len = l; taken = t; given = v; allocated = m; freed = f } in
-    let whole : make c.len c.taken c.given c.allocated c.freed ≡ make a.len a.taken a.given (a.allocated + k) (a.freed + k) =
-    ap (λ l. make l c.taken c.given c.allocated c.freed) len ∙ ap (λ t. make a.len t c.given c.allocated c.freed) taken ∙ ap (λ v. make a.len a.taken v c.allocated c.freed) given
-    ∙ ap (λ m. make a.len a.taken a.given m c.freed) allocated ∙ ap (make a.len a.taken a.given (a.allocated + k)) freed in
-    whole
-
-pub takes_drawn : (n : ℕ) (old new : Work) (a b : CacheBook) → Exchanges n old new a b → count old.memory ≡ 0 → n ≤ 256 → a.len ≤ most_cached → a.freed < 2 ^ 61 → TakesAll new b
-takes_drawn n old new a b e start few most freed = record {
-  len = (let e1 = e.len in omega (arith, e1, start, most));
-  freed = (let e1 = e.freed in omega (arith, e1, start, few, freed));
-}
-
--- nothing waits, so nothing is in the memory
-pub no_buffer_left : (s : Setting) (w : Work) → IsHeld s 0 w [] → IsNothingPending w.pending → count w.memory ≡ 0
-no_buffer_left s w held none =
-    let all_of : pending_count w.pending + 0 ≡ count w.memory = held.count_is in
-    let pending_none = sum_lengths w.pending none in
-    omega (arith, all_of, pending_none)
-
--- of bytes from a place on there are no more than in all
-pub bytes_behind_most : (k : ℕ) (packets : List Captured) → captured_bytes (drop k packets) ≤ captured_bytes packets
-bytes_behind_most k packets = let e = sum_by-take-drop (λ (c : Captured). length c.bytes) packets k in omega (arith, e)
-
--- a packet, by the bytes that were read at its place
-pub captured_there : (packets : List Captured) (k : ℕ) (bytes : List ℕ) → k < length packets
-    → option_map (λ (packet : Captured). packet.bytes) (slice_get packets k) ≡ Some bytes → (captured : Captured) × (captured ≡ get_or packets k captured) × (bytes ≡ captured.bytes)
-captured_there packets k bytes inside read =
-    let none : Captured = record { seconds = 0; fraction = 0; original = 0; bytes = [] } in
-    let captured : Captured = get_or packets k none in
-    let found : option_map (λ (packet : Captured). packet.bytes) (slice_get packets k) ≡ Some captured.bytes =
-    ap (option_map (λ (packet : Captured). packet.bytes)) (slice_get-get_or packets k none inside) in
-    let same : Some bytes ≡ Some captured.bytes = sym read ∙ found in
-    (captured, get_or_default packets k none captured inside, (let e : bytes ≡ captured.bytes = cc in e))
-
--- the bytes of all packets, and of those from one on, by the stretches that were counted
-pub whole_bytes : (packets : List Captured) (n : ℕ) → n ≡ length packets → captured_bytes (take n (drop 0 packets)) ≡ captured_bytes packets
-whole_bytes packets n is = ap captured_bytes (take_all n packets (omega (arith, is)))
-
-pub rest_bytes : (packets : List Captured) (n k : ℕ) → n ≡ length packets → captured_bytes (take (n - k) (drop k packets)) ≡ captured_bytes (drop k packets)
-rest_bytes packets n k is = ap captured_bytes (take_all (n - k) (drop k packets) (let e = length-drop k packets in omega (arith, e, is)))

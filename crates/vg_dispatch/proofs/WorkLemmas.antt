@@ -1,23 +1,28 @@
 -- What stays as a worker's buffers go from place to place.
-use Rattle.std.proofs.Common.{◌≡◌, ℕ, ◌+◌, ◌<◌, ◌≤◌, true, cond, List, [], ◌∷◌, ◌++◌, length, map, refl, sym, ap, ◌∙◌, arith, append_assoc, length-append}
-use Rattle.std.specs.Prelude.{Option, Some, None, is_some, unwrap_or, vec_len}
-use Rattle.std.specs.List.{sum_by, filter_map}
-use Rattle.std.proofs.lemmas.List.{append-nil, map-append, length-map}
+use Rattle.std.proofs.Common.{◌≡◌, ℕ, suc, ◌+◌, ◌<◌, ◌≤◌, Bool, true, false, cond, List, [], ◌∷◌, ◌++◌, length, refl, sym, ap, ◌∙◌, arith, append_assoc, length-append}
+use Rattle.std.specs.Prelude.{Option, Some, None, is_some, unwrap_or, vec_len, ◌==◌, if◌then◌else◌}
+use Rattle.std.specs.List.{sum_by, count_by, filter_map, cons_option, AllByRecursion}
+use Rattle.std.proofs.lemmas.List.{append-nil, map-append}
 use Rattle.std.proofs.lemmas.List.Elements.{filter_map-append}
 use Rattle.std.proofs.lemmas.Option.{none-some}
 use Rattle.std.proofs.lemmas.List.Sums.{sum_by-cons, sum_by-append, count_by-le-length}
 use Rattle.vg_model.specs.declared.kinds.Step.{Step}
-use Rattle.vg_model.specs.Journey.{end_of}
+use Rattle.vg_model.specs.declared.fates.Fate.{Fate}
+use Rattle.vg_model.specs.Graph.{error_drop}
+use Rattle.vg_model.specs.Leg.{Outcome, Sent, Dropped, Handed}
 use Rattle.vg_model.specs.Count.{is_drop, is_sent_on}
 use Rattle.vg_model.specs.PoolBook.{CacheBook}
 use Rattle.vg_pool.specs.Contents.{Contents, nothing}
 use Rattle.vg_frame.specs.Placed.{buffer_at, count, IsLive}
 use Rattle.vg_dispatch.specs.declared.underway.Work.{Work}
-use Rattle.vg_dispatch.specs.Ended.{Ended, fate_of, sent_of}
+use Rattle.vg_journeys.specs.Ended.{Ended}
+use Rattle.vg_journeys.specs.Trips.{Arrival, last_generation}
+use Rattle.vg_journeys.specs.Turns.{Settled, settled_log, settled_sent, settled_visits, refusal_visits}
+use Rattle.vg_journeys.specs.Accounts.{is_drawn}
 use Rattle.vg_dispatch.specs.SentEntries.{sent_by}
-use Rattle.vg_dispatch.specs.Underway.{Setting, Weights, owed, moved, move_owed, contents_at, live_at, waiting, in_hand, drawn_owed, counts_from}
+use Rattle.vg_dispatch.specs.Underway.{Setting, Weights, owed, moved, move_owed, contents_at, live_at, waiting, in_hand, arrival_owed, counts_from}
 use Rattle.vg_dispatch.specs.Places.{same_one, times_waiting, times_in_hand}
-use Rattle.vg_dispatch.specs.Works.{total, IsHeld, HasRoom, Advances, Exchanges, TakesAll, sent_len, by_bytes, by_visits}
+use Rattle.vg_dispatch.specs.Works.{total, IsHeld, HasRoom, Advances, Exchanges, TakesAll, IsRightlyRefused, ends_of, refused_visits, logged_count, sent_len, by_bytes, by_visits}
 use Rattle.vg_dispatch.proofs.SumLemmas.{sum_from_kept, sum_by_kept, sum_by_none, same_one_self, counts_from_none}
 
 -- what is live, and how often at most
@@ -34,8 +39,8 @@ pub none_live : (o : Option Contents) → o ≡ None → is_some o ≡ true → 
 none_live None none live = cc
 none_live (Some c) none live = none-some c (sym none)
 
-abbrev pub HasLegs : Option Contents → Type 0
-HasLegs o = is_some o ≡ true → 1 ≤ length (unwrap_or o nothing).legs
+abbrev pub HasLegs : ℕ → Option Contents → Type 0
+HasLegs generation o = is_some o ≡ true → (1 ≤ length (unwrap_or o nothing).legs) × (last_generation (unwrap_or o nothing).legs ≡ generation)
 
 -- what is in hand has a buffer, and stands nowhere else
 pub live_in_hand : (s : Setting) (node : ℕ) (w : Work) (p : ℕ × Step) (rest : List (ℕ × Step)) → IsHeld s node w (p ∷ rest) → IsLive w.memory p.0
@@ -71,47 +76,97 @@ total_without : (s : Setting) (n : ℕ) (w : Work) (ended : List Ended) → tota
 unfolding total
 total_without s n w ended = let none = sum_by_none {X = Ended} ended in omega (arith, none)
 
+-- a packet that a queue refused is visited once more at most
+last_most : (b : Bool) → length (if b then [] else error_drop ∷ []) ≤ 1
+last_most true = omega arith
+last_most false = omega arith
+
+pub refusal_most : (outcome : Outcome) (refused : Option ℕ) → length (refusal_visits outcome refused) ≤ 1
+refusal_most (Handed node worker) (Some accepted) = last_most (node == error_drop)
+refusal_most (Handed node worker) None = omega arith
+refusal_most (Sent interface) refused = omega arith
+refusal_most (Dropped node error) refused = omega arith
+
+at_most_one : (b : Bool) → cond b 1 0 ≤ 1
+at_most_one true = omega arith
+at_most_one false = omega arith
+
+pub visits_most : (m : ℕ) (visits : List ℕ) → sum_by (by_visits m).visits visits ≤ length visits
+visits_most m [] = omega arith
+visits_most m (n ∷ ns) = let rest = visits_most m ns in let one = at_most_one (n == m) in omega (arith, rest, one, sum_by-cons (by_visits m).visits n ns)
+
+pub refused_most : (m : ℕ) (settled : List Settled) → refused_visits (by_visits m).visits settled ≤ length settled
+refused_most m [] = omega arith
+refused_most m (x ∷ xs) =
+    let rest = refused_most m xs in
+    let most = visits_most m (settled_visits x) in
+    let one = refusal_most x.ended.outcome x.refused in
+    omega (arith, rest, most, one, sum_by-cons (λ (x : Settled). sum_by (by_visits m).visits (settled_visits x)) x xs)
+
+pub refused_none : (settled : List Settled) → refused_visits (λ n. 0) settled ≡ 0
+refused_none [] = refl
+refused_none (x ∷ xs) =
+    let rest = refused_none xs in
+    omega (arith, rest, sum_by_none (settled_visits x), sum_by-cons (λ (x : Settled). sum_by (λ n. 0) (settled_visits x)) x xs)
+
+-- no more are logged than have ended
+pub logged_most : (settled : List Settled) → logged_count settled ≤ length settled
+logged_most [] = omega arith
+logged_most (x ∷ xs) = one (settled_log x) (filter_map settled_log xs) (length xs) (logged_most xs)
+  where
+    one : (o : Option Fate) (fs : List Fate) (n : ℕ) → length fs ≤ n → length (cons_option o fs) ≤ suc n
+    one None fs n h = omega (arith, h)
+    one (Some f) fs n h = omega (arith, h)
+
+-- of this kind are so many logged as there are ends at most
+pub logged_of : (p : Fate → Bool) (settled : List Settled) → count_by p (filter_map settled_log settled) ≤ length settled
+logged_of p settled = let one = count_by-le-length p (filter_map settled_log settled) in let two = logged_most settled in omega (arith, one, two)
+
 pub total_of : (s : Setting) (t : Weights) (w : Work) (ended : List Ended) → total s t w ended ≡ sum_by t.ends ended + counts_from t.visits 0 w.counts.visits + waiting s t w.memory w.pending
 unfolding total
 total_of s t w ended = refl
 
--- what is kept grows by an end each
-pub fates_grow : (s : Setting) (node : ℕ) (packets : List (ℕ × List ℕ)) (old new : Work) (h1 h2 : List (ℕ × Step)) (a : Advances s node packets old h1 new h2) → vec_len new.fates ≡ vec_len old.fates + length a.ended
-fates_grow s node packets old new h1 h2 a =
-    new.fates.ok.0 ∙ ap length a.fates ∙ length-append old.fates.items (map fate_of a.ended)
-    ∙ (let e1 = old.fates.ok.0 in let e2 = length-map a.ended fate_of in omega (arith, e1, e2))
+-- what is kept grows by a fate for each that is logged
+pub fates_grow : (s : Setting) (node : ℕ) (arrivals : List Arrival) (settled : List Settled) (old new : Work) (h1 h2 : List (ℕ × Step)) → Advances s node arrivals settled old h1 new h2 → vec_len new.fates ≡ vec_len old.fates + logged_count settled
+fates_grow s node arrivals settled old new h1 h2 a =
+    new.fates.ok.0 ∙ ap length a.fates ∙ length-append old.fates.items (filter_map settled_log settled)
+    ∙ (let e1 = old.fates.ok.0 in omega (arith, e1))
 
 -- there is room as there was
-pub room_kept : (s : Setting) (node : ℕ) (old new : Work) (h1 h2 : List (ℕ × Step)) → HasRoom s node old h1 → Advances s node [] old h1 new h2 → HasRoom s node new h2
-room_kept s node old new h1 h2 room a =
-    let live : count new.memory + length a.ended ≡ count old.memory + 0 = a.live in
+pub room_kept : (s : Setting) (node : ℕ) (settled : List Settled) (old new : Work) (h1 h2 : List (ℕ × Step)) → HasRoom s node old h1 → Advances s node [] settled old h1 new h2 → HasRoom s node new h2
+room_kept s node settled old new h1 h2 room a =
+    let live : count new.memory + length settled ≡ count old.memory + 0 = a.live in
+    let most = logged_most settled in
     record {
-      fates = (let r = room.fates in let cap = a.room.0 in let grow = fates_grow s node [] old new h1 h2 a in omega (arith, r, cap, grow, live));
-      entries = (let r = room.entries in let cap = a.room.1 in let grow = a.entries in omega (arith, r, cap, grow, live));
+      fates = (let r = room.fates in let cap = a.room.0 in let grow = fates_grow s node [] settled old new h1 h2 a in omega (arith, r, cap, grow, live, most));
+      entries = (let r = room.entries in let cap = a.room.1 in let grow = a.entries_most in omega (arith, r, cap, grow, live));
       bytes =
           (let r = room.bytes in let cap = a.room.2 in let grow = a.bytes in
-          let all : total s by_bytes new a.ended + in_hand s by_bytes node new.memory h2 ≡ total s by_bytes old [] + in_hand s by_bytes node old.memory h1 + 0 = a.same by_bytes in
-          let e1 = total_of s by_bytes new a.ended in let e2 = total_of s by_bytes old [] in
+          let all : total s by_bytes new (ends_of settled) + in_hand s by_bytes node new.memory h2 ≡ total s by_bytes old [] + in_hand s by_bytes node old.memory h1 + 0 + refused_visits (λ n. 0) settled = a.same by_bytes in
+          let e1 = total_of s by_bytes new (ends_of settled) in let e2 = total_of s by_bytes old [] in
           let c1 = counts_from_none 0 new.counts.visits in let c2 = counts_from_none 0 old.counts.visits in
-          omega (arith, r, cap, grow, all, e1, e2, c1, c2));
+          let none = refused_none settled in
+          omega (arith, r, cap, grow, all, e1, e2, c1, c2, none));
       visits = λ n.
           (let r = room.visits n in
-          let all : total s (by_visits n) new a.ended + in_hand s (by_visits n) node new.memory h2 ≡ total s (by_visits n) old [] + in_hand s (by_visits n) node old.memory h1 + 0 = a.same (by_visits n) in
-          let e = total_without s n new a.ended in
-          omega (arith, r, all, e));
-      drops = λ n error. (let r = room.drops n error in let most = a.drops_most n error in omega (arith, r, most, live));
-      sends = λ i. (let r = room.sends i in let e = a.sends i in let most = count_by-le-length (λ (e : Ended). is_sent_on i (end_of e.outcome)) a.ended in omega (arith, r, e, most, live));
+          let all : total s (by_visits n) new (ends_of settled) + in_hand s (by_visits n) node new.memory h2 ≡ total s (by_visits n) old [] + in_hand s (by_visits n) node old.memory h1 + 0 + refused_visits (by_visits n).visits settled =
+          a.same (by_visits n) in
+          let e = total_without s n new (ends_of settled) in
+          let few = refused_most n settled in
+          omega (arith, r, all, e, few, live));
+      drops = λ n error. (let r = room.drops n error in let more = a.drops_most n error in omega (arith, r, more, live));
+      sends = λ i. (let r = room.sends i in let e = a.sends i in let few = logged_of (λ (f : Fate). is_sent_on i f.end) settled in omega (arith, r, e, few, live));
     }
 
 -- nothing done
-pub advances_none : (s : Setting) (node : ℕ) (w : Work) (hand : List (ℕ × Step)) → Advances s node [] w hand w hand
+pub advances_none : (s : Setting) (node : ℕ) (w : Work) (hand : List (ℕ × Step)) → Advances s node [] [] w hand w hand
 advances_none s node w hand = record {
-  ended = [];
   same = λ t. omega arith;
+  may_be = tt;
   live = refl;
   fates = sym (append-nil w.fates.items);
   sent = sym (append-nil (sent_by w.entries.items w.bytes.items));
-  entries = omega arith;
+  entries_most = omega arith;
   bytes = omega arith;
   room = (omega arith, omega arith, omega arith);
   size = record { nodes = refl; interfaces = refl };
@@ -121,50 +176,98 @@ advances_none s node w hand = record {
   sends = λ i. omega arith;
 }
 
+count_append : (p : Fate → Bool) (xs ys : List Fate) → count_by p (xs ++ ys) ≡ count_by p xs + count_by p ys
+count_append p xs ys = sum_by-append (λ x. cond (p x) 1 0) xs ys
+
+pub all_append : {X : Type 0} (P : X → Type 0) (xs ys : List X) → AllByRecursion P xs → AllByRecursion P ys → AllByRecursion P (xs ++ ys)
+all_append P [] ys one two = two
+all_append P (x ∷ xs) ys one two = (one.0, all_append P xs ys one.1 two)
+
 -- one stretch and then another
-pub advances_then : (s : Setting) (node : ℕ) (p1 p2 : List (ℕ × List ℕ)) (a b c : Work) (ha hb hc : List (ℕ × Step)) → Advances s node p1 a ha b hb → Advances s node p2 b hb c hc
-    → Advances s node (p1 ++ p2) a ha c hc
-advances_then s node p1 p2 a b c ha hb hc one two = record {
-  ended = one.ended ++ two.ended;
-  same = λ t.
-      let e1 = one.same t in let e2 = two.same t in
-      let t1 = total_of s t b one.ended in let t2 = total_of s t b [] in
-      let t3 = total_of s t c two.ended in let t4 = total_of s t c (one.ended ++ two.ended) in
-      omega (arith, e1, e2, t1, t2, t3, t4, sum_by-append t.ends one.ended two.ended, sum_by-append (drawn_owed s t) p1 p2);
-  live = (let e1 = one.live in let e2 = two.live in omega (arith, e1, e2, length-append one.ended two.ended, length-append p1 p2));
-  fates = two.fates ∙ ap (λ xs. xs ++ map fate_of two.ended) one.fates ∙ append_assoc a.fates.items (map fate_of one.ended) (map fate_of two.ended)
-      ∙ ap (λ xs. a.fates.items ++ xs) (sym (map-append fate_of one.ended two.ended));
-  sent = two.sent ∙ ap (λ xs. xs ++ filter_map sent_of two.ended) one.sent ∙ append_assoc (sent_by a.entries.items a.bytes.items) (filter_map sent_of one.ended) (filter_map sent_of two.ended)
-      ∙ ap (λ xs. sent_by a.entries.items a.bytes.items ++ xs) (sym (filter_map-append sent_of one.ended two.ended));
-  entries = (let e1 = one.entries in let e2 = two.entries in omega (arith, e1, e2, length-append one.ended two.ended));
-  bytes = (let e1 = one.bytes in let e2 = two.bytes in omega (arith, e1, e2, sum_by-append sent_len one.ended two.ended));
-  room = ((let e1 = one.room.0 in let e2 = two.room.0 in omega (arith, e1, e2)), (let e1 = one.room.1 in let e2 = two.room.1 in omega (arith, e1, e2)), (let e1 = one.room.2 in let e2 = two.room.2 in omega (arith, e1, e2)));
-  size = record { nodes = two.size.nodes ∙ one.size.nodes; interfaces = two.size.interfaces ∙ one.size.interfaces };
-  visited = (let e1 = one.visited in let e2 = two.visited in omega (arith, e1, e2));
-  drops = λ n error.
-      let e1 = one.drops n error in let e2 = two.drops n error in
-      omega (arith, e1, e2, sum_by-append (λ (e : Ended). cond (is_drop n error (end_of e.outcome)) 1 0) one.ended two.ended);
-  drops_most = λ n error. (let e1 = one.drops_most n error in let e2 = two.drops_most n error in omega (arith, e1, e2, length-append one.ended two.ended));
-  sends = λ i.
-      let e1 = one.sends i in let e2 = two.sends i in
-      omega (arith, e1, e2, sum_by-append (λ (e : Ended). cond (is_sent_on i (end_of e.outcome)) 1 0) one.ended two.ended);
-}
+pub advances_then : (s : Setting) (node : ℕ) (p1 p2 : List Arrival) (s1 s2 : List Settled) (a b c : Work) (ha hb hc : List (ℕ × Step)) → Advances s node p1 s1 a ha b hb → Advances s node p2 s2 b hb c hc
+    → Advances s node (p1 ++ p2) (s1 ++ s2) a ha c hc
+advances_then s node p1 p2 s1 s2 a b c ha hb hc one two =
+    let split : filter_map settled_log (s1 ++ s2) ≡ filter_map settled_log s1 ++ filter_map settled_log s2 = filter_map-append settled_log s1 s2 in
+    let ends : ends_of (s1 ++ s2) ≡ ends_of s1 ++ ends_of s2 = map-append (λ (x : Settled). x.ended) s1 s2 in
+    record {
+      same = λ t.
+          let e1 = one.same t in let e2 = two.same t in
+          let t1 = total_of s t b (ends_of s1) in let t2 = total_of s t b [] in
+          let t3 = total_of s t c (ends_of s2) in let t4 = total_of s t c (ends_of (s1 ++ s2)) in
+          let e = ap (sum_by t.ends) ends in
+          omega (
+            arith,
+            e1,
+            e2,
+            t1,
+            t2,
+            t3,
+            t4,
+            e,
+            sum_by-append t.ends (ends_of s1) (ends_of s2),
+            sum_by-append (arrival_owed s t) p1 p2,
+            sum_by-append (λ (x : Settled). sum_by t.visits (settled_visits x)) s1 s2,
+          );
+      may_be = all_append IsRightlyRefused s1 s2 one.may_be two.may_be;
+      live = (let e1 = one.live in let e2 = two.live in omega (arith, e1, e2, length-append s1 s2, length-append p1 p2));
+      fates = two.fates ∙ ap (λ xs. xs ++ filter_map settled_log s2) one.fates ∙ append_assoc a.fates.items (filter_map settled_log s1) (filter_map settled_log s2)
+          ∙ ap (λ xs. a.fates.items ++ xs) (sym split);
+      sent = two.sent ∙ ap (λ xs. xs ++ filter_map settled_sent s2) one.sent ∙ append_assoc (sent_by a.entries.items a.bytes.items) (filter_map settled_sent s1) (filter_map settled_sent s2)
+          ∙ ap (λ xs. sent_by a.entries.items a.bytes.items ++ xs) (sym (filter_map-append settled_sent s1 s2));
+      entries_most = (let e1 = one.entries_most in let e2 = two.entries_most in omega (arith, e1, e2, length-append s1 s2));
+      bytes = (let e1 = one.bytes in let e2 = two.bytes in let e = ap (sum_by sent_len) ends in omega (arith, e1, e2, e, sum_by-append sent_len (ends_of s1) (ends_of s2)));
+      room = ((let e1 = one.room.0 in let e2 = two.room.0 in omega (arith, e1, e2)), (let e1 = one.room.1 in let e2 = two.room.1 in omega (arith, e1, e2)), (let e1 = one.room.2 in let e2 = two.room.2 in omega (arith, e1, e2)));
+      size = record { nodes = two.size.nodes ∙ one.size.nodes; interfaces = two.size.interfaces ∙ one.size.interfaces };
+      visited = (let e1 = one.visited in let e2 = two.visited in omega (arith, e1, e2, sum_by-append (λ (x : Settled). sum_by (λ n. 1) (settled_visits x)) s1 s2));
+      drops = λ n error.
+          let e1 = one.drops n error in let e2 = two.drops n error in
+          let e = ap (count_by (λ (f : Fate). is_drop n error f.end)) split in
+          omega (arith, e1, e2, e, count_append (λ (f : Fate). is_drop n error f.end) (filter_map settled_log s1) (filter_map settled_log s2));
+      drops_most = λ n error. (let e1 = one.drops_most n error in let e2 = two.drops_most n error in omega (arith, e1, e2, length-append s1 s2));
+      sends = λ i.
+          let e1 = one.sends i in let e2 = two.sends i in
+          let e = ap (count_by (λ (f : Fate). is_sent_on i f.end)) split in
+          omega (arith, e1, e2, e, count_append (λ (f : Fate). is_sent_on i f.end) (filter_map settled_log s1) (filter_map settled_log s2));
+    }
 
 -- as many buffers are in the cache and with the worker together
-pub exchanges_none : (w : Work) (cache : CacheBook) → Exchanges 0 w w cache cache
-exchanges_none w cache = record { len = refl; freed = omega arith; allocated = omega arith; taken = refl; given = refl }
+pub exchanges_none : (cache : CacheBook) → Exchanges [] [] cache cache
+exchanges_none cache = record { len = refl; freed = omega arith; allocated = omega arith; taken = refl; given = refl }
 
-pub exchanges_then : (m n : ℕ) (a b c : Work) (x y z : CacheBook) → Exchanges m a b x y → Exchanges n b c y z → Exchanges (m + n) a c x z
-exchanges_then m n a b c x y z one two = record {
-  len = two.len ∙ one.len;
-  freed = (let e1 = one.freed in let e2 = two.freed in omega (arith, e1, e2));
-  allocated = (let e1 = one.allocated in let e2 = two.allocated in omega (arith, e1, e2));
-  taken = two.taken ∙ one.taken;
-  given = two.given ∙ one.given;
-}
+pub exchanges_then : (p1 p2 : List Arrival) (s1 s2 : List Settled) (x y z : CacheBook) → Exchanges p1 s1 x y → Exchanges p2 s2 y z → Exchanges (p1 ++ p2) (s1 ++ s2) x z
+exchanges_then p1 p2 s1 s2 x y z one two =
+    let drawn = sum_by-append is_drawn p1 p2 in
+    let logged = ap length (filter_map-append settled_log s1 s2) ∙ length-append (filter_map settled_log s1) (filter_map settled_log s2) in
+    record {
+      len = (let e1 = one.len in let e2 = two.len in omega (arith, e1, e2, drawn, logged));
+      freed = (let e1 = one.freed in let e2 = two.freed in omega (arith, e1, e2, logged));
+      allocated = (let e1 = one.allocated in let e2 = two.allocated in omega (arith, e1, e2, drawn));
+      taken = two.taken ∙ one.taken;
+      given = two.given ∙ one.given;
+    }
 
-pub takes_kept : (a b : Work) (x y : CacheBook) → TakesAll a x → Exchanges 0 a b x y → TakesAll b y
-takes_kept a b x y takes e = record {
-  len = (let h = takes.len in let e1 = e.len in omega (arith, h, e1));
-  freed = (let h = takes.freed in let e1 = e.freed in omega (arith, h, e1));
+pub takes_kept : (settled : List Settled) (a b : Work) (x y : CacheBook) → TakesAll a x → count b.memory + length settled ≡ count a.memory → Exchanges [] settled x y → TakesAll b y
+takes_kept settled a b x y takes live e =
+    let most = logged_most settled in
+    record {
+      len = (let h = takes.len in let e1 = e.len in omega (arith, h, e1, live, most));
+      freed = (let h = takes.freed in let e1 = e.freed in omega (arith, h, e1, live, most));
+    }
+
+-- by other words for the packets that came
+pub advances_of : (s : Setting) (node : ℕ) (one other : List Arrival) (settled : List Settled) (old new : Work) → one ≡ other → Advances s node one settled old [] new [] → Advances s node other settled old [] new []
+advances_of s node one other settled old new same a = record {
+  same = λ t. (let e = a.same t in let k = ap (sum_by (arrival_owed s t)) same in omega (arith, e, k));
+  may_be = a.may_be;
+  live = (let e = a.live in let k = ap length same in omega (arith, e, k));
+  fates = a.fates;
+  sent = a.sent;
+  entries_most = a.entries_most;
+  bytes = a.bytes;
+  room = a.room;
+  size = a.size;
+  visited = a.visited;
+  drops = a.drops;
+  drops_most = a.drops_most;
+  sends = a.sends;
 }

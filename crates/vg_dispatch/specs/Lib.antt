@@ -1,4 +1,3 @@
-pub mod Ended
 pub mod Progress
 pub mod Round
 pub mod SentEntries
@@ -6,6 +5,17 @@ pub mod Underway
 pub mod Places
 pub mod Traced
 pub mod Works
+pub mod Hands
+pub mod Outlets
 pub mod Draws
 pub mod Rest
 pub mod Parcels
+pub mod Peers
+pub mod Queues
+pub mod Taking
+pub mod Workers
+pub mod Standing
+pub mod Rounds
+pub mod Turned
+pub mod Keeping
+pub mod Seating

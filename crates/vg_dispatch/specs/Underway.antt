@@ -1,18 +1,18 @@
 -- Packets on their way from node to node, and what is still to be counted for them.
-use Rattle.std.specs.Prelude.{ℕ, suc, ◌+◌, ◌*◌, ◌≤◌, List, [], ◌∷◌, length, Option, None, Some, option_map, unwrap_or, is_some, if◌then◌else◌}
+use Rattle.std.specs.Prelude.{ℕ, suc, ◌+◌, ◌*◌, ◌≤◌, List, [], ◌∷◌, ◌++◌, length, Option, None, Some, option_map, unwrap_or, is_some, if◌then◌else◌}
 use Rattle.std.specs.List.{sum_by}
 use Rattle.vg_model.specs.declared.fates.Leg.{Leg}
 use Rattle.vg_model.specs.declared.kinds.Step.{Step}
 use Rattle.vg_model.specs.Graph.{Graph}
-use Rattle.vg_model.specs.Packet.{fresh}
 use Rattle.vg_model.specs.Visit.{Visit}
 use Rattle.vg_model.specs.Valid.{IsValid, IsKindSet}
 use Rattle.vg_model.specs.Edit.{most_nodes, most_interfaces}
 use Rattle.vg_model.specs.Leg.{Way, Move, Onward, Over, move_of, leg}
-use Rattle.vg_model.specs.Journey.{first_leg}
 use Rattle.vg_pool.specs.Contents.{Contents, nothing}
 use Rattle.vg_frame.specs.Placed.{buffer_at}
-use Rattle.vg_dispatch.specs.Ended.{Ended, ended_by, drop_visits}
+use Rattle.vg_journeys.specs.Ended.{Ended, ended_by, drop_visits}
+use Rattle.vg_journeys.specs.Trips.{Arrival, legs_before, arrival_leg}
+use Rattle.vg_dispatch.specs.declared.stations.Station.{Station}
 
 -- what a worker has through a round: the visits of the kinds, the graph and its generation, how many workers there are, its number
 pub record Setting : Type 0 where
@@ -22,9 +22,9 @@ pub record Setting : Type 0 where
   pub workers : ℕ
   pub worker : ℕ
 
--- the setting of the only worker
-abbrev pub alone : Visit → Graph → ℕ → Setting
-alone visit graph generation = record { visit = visit; graph = graph; generation = generation; workers = 1; worker = 0 }
+-- the setting of one of a run's workers
+abbrev pub stationed : Visit → Graph → ℕ → Station → Setting
+stationed visit graph generation station = record { visit = visit; graph = graph; generation = generation; workers = station.workers; worker = station.worker }
 
 -- the kinds are lawful, and the graph is valid and within the limits
 pub record IsSetting (s : Setting) : Type 0 where
@@ -54,15 +54,18 @@ leg_of s node c = leg s.visit s.graph s.workers s.worker (length c.legs) node c.
 abbrev pub owed : Setting → Weights → ℕ → Contents → ℕ
 owed s t node c = unwrap_or (option_map (way_weight t c.legs) (leg_of s node c)) 0
 
--- the leg of a packet as it is drawn, and what it counts
-abbrev pub drawn_leg : Setting → ℕ × List ℕ → Option Way
-drawn_leg s packet = first_leg s.visit s.graph s.workers s.worker (fresh packet.0 packet.1)
+-- the leg of a packet that comes to the worker, its legs with this one, and what it counts
+abbrev pub arrival_way : Setting → Arrival → Option Way
+arrival_way s e = arrival_leg s.visit s.graph s.workers s.worker e
 
-abbrev pub legs_here : Setting → List Leg
-legs_here s = record { worker = s.worker; generation = s.generation } ∷ []
+abbrev pub leg_here : Setting → Leg
+leg_here s = record { worker = s.worker; generation = s.generation }
 
-abbrev pub drawn_owed : Setting → Weights → ℕ × List ℕ → ℕ
-drawn_owed s t packet = unwrap_or (option_map (way_weight t (legs_here s)) (drawn_leg s packet)) 0
+abbrev pub legs_at : Setting → Arrival → List Leg
+legs_at s e = legs_before e ++ leg_here s ∷ []
+
+abbrev pub arrival_owed : Setting → Weights → Arrival → ℕ
+arrival_owed s t e = unwrap_or (option_map (way_weight t (legs_at s e)) (arrival_way s e)) 0
 
 -- the packet after a visit, with the same legs
 abbrev pub after_at : Setting → ℕ → Contents → Contents

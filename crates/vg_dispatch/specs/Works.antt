@@ -12,19 +12,22 @@ use Rattle.vg_model.specs.Graph.{kind_at, error_drop}
 use Rattle.vg_model.specs.Valid.{IsTarget, IsStepOf}
 use Rattle.vg_model.specs.Edit.{most_nodes, most_interfaces}
 use Rattle.vg_model.specs.Leg as legs
-use Rattle.vg_model.specs.Journey.{end_of}
 use Rattle.vg_model.specs.Count.{is_drop, is_sent_on}
 use Rattle.vg_model.specs.PoolBook.{CacheBook}
 use Rattle.vg_pool.specs.Contents.{Contents, AreContents}
 use Rattle.vg_pool.specs.Moves.{most_cached}
-use Rattle.vg_frame.specs.Pending.{pending_at, pending_count, frame_size}
-use Rattle.vg_frame.specs.Placed.{count, Changes, IsLive}
+use Rattle.vg_frame.specs.Pending.{pending_at, pending_count}
+use Rattle.vg_frame.specs.Placed.{count, most_placed, Changes, IsLive}
 use Rattle.vg_counters.specs.Tally.{Tally, IsWhole, IsSameSize, more_at, drops_at, one_drop_more}
 use Rattle.vg_nodes.specs.declared.sorted.Sorted.{Sorted}
 use Rattle.vg_dispatch.specs.declared.underway.Work.{Work}
-use Rattle.vg_dispatch.specs.Ended.{Ended, fate_of, sent_of}
+use Rattle.vg_model.specs.declared.fates.Fate.{Fate}
+use Rattle.vg_journeys.specs.Ended.{Ended, fate_of, sent_of}
+use Rattle.vg_journeys.specs.Trips.{Arrival, last_generation}
+use Rattle.vg_journeys.specs.Turns.{Settled, settled_log, settled_sent, settled_visits, MayBeRefused}
+use Rattle.vg_journeys.specs.Accounts.{is_drawn}
 use Rattle.vg_dispatch.specs.SentEntries.{sent_by, AreWithin}
-use Rattle.vg_dispatch.specs.Underway.{Setting, Weights, counts_from, contents_at, live_at, waiting, in_hand, drawn_owed}
+use Rattle.vg_dispatch.specs.Underway.{Setting, Weights, counts_from, contents_at, live_at, waiting, in_hand, arrival_owed}
 use Rattle.vg_dispatch.specs.Places.{times_waiting, times_in_hand}
 use Rattle.vg_dispatch.specs.Traced.{leg_place, noted_end, StayTraced}
 
@@ -67,11 +70,12 @@ pub record IsHeld (s : Setting) (node : ℕ) (w : Work) (hand : List (ℕ × Ste
   pub nodes : length w.pending ≡ most_nodes
   pub places : (index : ℕ) → times_waiting index w.pending + times_in_hand index hand ≡ live_at w.memory index
   pub count_is : pending_count w.pending + length hand ≡ count w.memory
-  pub few : count w.memory ≤ frame_size
+  pub few : count w.memory ≤ most_placed
   pub targets : (n : ℕ) → 0 < length (pending_at w.pending n) → IsTarget (kind_at s.graph n)
   pub steps : AllByRecursion (IsStepIn s node) hand
   pub sound : (index : ℕ) → AreContents (contents_at w.memory index)
-  pub legs : (index : ℕ) → IsLive w.memory index → 1 ≤ length (contents_at w.memory index).legs
+  -- the last leg of each is under the generation
+  pub legs : (index : ℕ) → IsLive w.memory index → (1 ≤ length (contents_at w.memory index).legs) × (last_generation (contents_at w.memory index).legs ≡ s.generation)
   pub visits : length w.counts.visits ≡ most_nodes
   pub sends : length w.counts.sends ≡ most_interfaces
   pub whole : IsWhole w.counts
@@ -102,12 +106,16 @@ by_all_visits = record { visits = λ n. 1; ends = λ e. 0 }
 abbrev pub visits_in_all : Tally → ℕ
 visits_in_all tally = counts_from (λ n. 1) 0 tally.visits
 
+-- how many visits are still to come
+abbrev pub visits_left : Setting → Work → ℕ
+visits_left s w = waiting s by_all_visits w.memory w.pending
+
 -- there is room for all that is still to come
 pub record HasRoom (s : Setting) (node : ℕ) (w : Work) (hand : List (ℕ × Step)) : Type 0 where
   pub fates : vec_len w.fates + count w.memory ≤ vec_capacity w.fates
   pub entries : vec_len w.entries + count w.memory ≤ vec_capacity w.entries
   pub bytes : vec_len w.bytes + (waiting s by_bytes w.memory w.pending + in_hand s by_bytes node w.memory hand) ≤ vec_capacity w.bytes
-  pub visits : (n : ℕ) → total s (by_visits n) w [] + in_hand s (by_visits n) node w.memory hand < 2 ^ 62
+  pub visits : (n : ℕ) → total s (by_visits n) w [] + in_hand s (by_visits n) node w.memory hand + count w.memory < 2 ^ 62
   pub drops : (n error : ℕ) → drops_at n error w.counts.drops + count w.memory < 2 ^ 63
   pub sends : (interface : ℕ) → slice_index w.counts.sends interface + count w.memory < 2 ^ 63
 
@@ -116,30 +124,52 @@ pub record IsSteady (s : Setting) (node : ℕ) (w : Work) (hand : List (ℕ × S
   pub held : IsHeld s node w hand
   pub room : HasRoom s node w hand
 
--- what was kept and counted from one moment to another, in which these packets were drawn
-pub record Advances (s : Setting) (node : ℕ) (packets : List (ℕ × List ℕ)) (old : Work) (old_hand : List (ℕ × Step)) (new : Work) (new_hand : List (ℕ × Step)) : Type 0 where
-  pub ended : List Ended
-  pub same : (t : Weights) → total s t new ended + in_hand s t node new.memory new_hand
-      ≡ total s t old [] + in_hand s t node old.memory old_hand + sum_by (drawn_owed s t) packets
-  pub live : count new.memory + length ended ≡ count old.memory + length packets
-  pub fates : new.fates.items ≡ old.fates.items ++ map fate_of ended
-  pub sent : sent_by new.entries.items new.bytes.items ≡ sent_by old.entries.items old.bytes.items ++ filter_map sent_of ended
-  pub entries : vec_len new.entries ≤ vec_len old.entries + length ended
-  pub bytes : vec_len new.bytes ≡ vec_len old.bytes + sum_by sent_len ended
+-- the ends of packets; how often they visit nodes since a queue refused them, by any way of counting; and how many are logged
+abbrev pub ends_of : List Settled → List Ended
+ends_of settled = map (λ (x : Settled). x.ended) settled
+
+abbrev pub refused_visits : (ℕ → ℕ) → List Settled → ℕ
+refused_visits f settled = sum_by (λ (x : Settled). sum_by f (settled_visits x)) settled
+
+abbrev pub logged_count : List Settled → ℕ
+logged_count settled = length (filter_map settled_log settled)
+
+abbrev pub IsRightlyRefused : Settled → Type 0
+IsRightlyRefused x = MayBeRefused x.ended.outcome x.refused
+
+-- the packet ended here: on an interface or in a drop
+abbrev pub StaysHere : legs.Outcome → Type 0
+StaysHere (legs.Sent interface) = Unit {0}
+StaysHere (legs.Dropped node error) = Unit {0}
+StaysHere (legs.Handed node worker) = ⊥
+
+abbrev pub EndsHere : Settled → Type 0
+EndsHere x = StaysHere x.ended.outcome × (x.refused ≡ None)
+
+-- what was kept and counted from one moment to another, in which these packets came, and these were settled
+pub record Advances (s : Setting) (node : ℕ) (arrivals : List Arrival) (settled : List Settled) (old : Work) (old_hand : List (ℕ × Step)) (new : Work) (new_hand : List (ℕ × Step)) : Type 0 where
+  pub same : (t : Weights) → total s t new (ends_of settled) + in_hand s t node new.memory new_hand
+      ≡ total s t old [] + in_hand s t node old.memory old_hand + sum_by (arrival_owed s t) arrivals + refused_visits t.visits settled
+  pub may_be : AllByRecursion IsRightlyRefused settled
+  pub live : count new.memory + length settled ≡ count old.memory + length arrivals
+  pub fates : new.fates.items ≡ old.fates.items ++ filter_map settled_log settled
+  pub sent : sent_by new.entries.items new.bytes.items ≡ sent_by old.entries.items old.bytes.items ++ filter_map settled_sent settled
+  pub entries_most : vec_len new.entries ≤ vec_len old.entries + length settled
+  pub bytes : vec_len new.bytes ≡ vec_len old.bytes + sum_by sent_len (ends_of settled)
   pub room : (vec_capacity old.fates ≤ vec_capacity new.fates) × (vec_capacity old.entries ≤ vec_capacity new.entries) × (vec_capacity old.bytes ≤ vec_capacity new.bytes)
   pub size : IsSameSize old.counts new.counts
-  pub visited : visits_in_all old.counts ≤ visits_in_all new.counts
+  pub visited : visits_in_all old.counts + refused_visits (λ n. 1) settled ≤ visits_in_all new.counts
   pub drops : (n : ℕ) (error : DropError) → drops_at n (error_number error) new.counts.drops
-      ≡ drops_at n (error_number error) old.counts.drops + count_by (λ (e : Ended). is_drop n error (end_of e.outcome)) ended
-  pub drops_most : (n error : ℕ) → drops_at n error new.counts.drops ≤ drops_at n error old.counts.drops + length ended
+      ≡ drops_at n (error_number error) old.counts.drops + count_by (λ (f : Fate). is_drop n error f.end) (filter_map settled_log settled)
+  pub drops_most : (n error : ℕ) → drops_at n error new.counts.drops ≤ drops_at n error old.counts.drops + length settled
   pub sends : (interface : ℕ) → slice_index new.counts.sends interface
-      ≡ slice_index old.counts.sends interface + count_by (λ (e : Ended). is_sent_on interface (end_of e.outcome)) ended
+      ≡ slice_index old.counts.sends interface + count_by (λ (f : Fate). is_sent_on interface f.end) (filter_map settled_log settled)
 
--- buffers go between a cache and the worker, so many of them newly drawn
-pub record Exchanges (drawn : ℕ) (old new : Work) (old_cache new_cache : CacheBook) : Type 0 where
-  pub len : new_cache.len + count new.memory ≡ old_cache.len + count old.memory
-  pub freed : new_cache.freed + count new.memory ≡ old_cache.freed + count old.memory + drawn
-  pub allocated : new_cache.allocated ≡ old_cache.allocated + drawn
+-- a cache gives a buffer for each packet drawn, and takes one back for each that is logged
+pub record Exchanges (arrivals : List Arrival) (settled : List Settled) (old_cache new_cache : CacheBook) : Type 0 where
+  pub len : new_cache.len + sum_by is_drawn arrivals ≡ old_cache.len + logged_count settled
+  pub freed : new_cache.freed ≡ old_cache.freed + logged_count settled
+  pub allocated : new_cache.allocated ≡ old_cache.allocated + sum_by is_drawn arrivals
   pub taken : new_cache.taken ≡ old_cache.taken
   pub given : new_cache.given ≡ old_cache.given
 
@@ -152,9 +182,11 @@ pub record TakesAll (w : Work) (cache : CacheBook) : Type 0 where
 pub record IsPutAway (s : Setting) (node : ℕ) (old : Work) (old_cache : CacheBook) (old_hand : List (ℕ × Step)) (new : Work) (new_cache : CacheBook) (new_hand : List (ℕ × Step)) : Type 0 where
   pub steady : IsSteady s node new new_hand
   pub takes : TakesAll new new_cache
-  pub advances : Advances s node [] old old_hand new new_hand
-  pub exchanges : Exchanges 0 old new old_cache new_cache
-  pub traced : StayTraced s node old old_hand new new_hand
+  pub settled : List Settled
+  pub advances : Advances s node [] settled old old_hand new new_hand
+  pub exchanges : Exchanges [] settled old_cache new_cache
+  pub here : AllByRecursion EndsHere settled
+  pub traced : StayTraced s node settled old old_hand new new_hand
 
 -- the counts with one end more
 abbrev pub counted_end : End → Tally → Tally
@@ -178,6 +210,9 @@ outcome_of (ends.Dropped node error) = legs.Dropped node error
 -- a packet with this end
 abbrev pub ended_with : End → Contents → Ended
 ended_with end c = record { outcome = outcome_of end; contents = c }
+
+abbrev pub settled_with : End → Contents → Settled
+settled_with end c = record { ended = ended_with end c; refused = None }
 
 -- all that it takes to take the packet of this index out with its end
 pub record CanFinish (index : ℕ) (end : End) (w : Work) (cache : CacheBook) : Type 0 where

@@ -1,26 +1,42 @@
-//! What one worker does: rounds that draw packets and dispatch frames until none is pending.
+//! What one worker does: rounds that take and draw packets, and dispatch frames until none is pending.
 //!
-//! A [`Core`] draws packets of a capture into buffers, a burst at a time, and dispatches them over a fork, frame by frame, as a
-//! thread of VLIB does. What became of each packet is logged, counted by node, error and interface, and, where it was transmitted,
-//! its bytes are kept in a [`SentList`]. The nodes that the first packets visit are noted, as many as the options' trace says.
-//! Between two rounds no packet is on its way, and each buffer is back in its cache.
+//! A [`Worker`] draws its own packets of a capture into buffers, a burst at a time, takes frames of packets that other workers hand
+//! over, and dispatches them over a fork, frame by frame, as a thread of VLIB does. Packets that a handoff node hands to one other
+//! worker in one dispatch go as one frame over one queue. What became of a packet is logged, counted by node, error and interface,
+//! and, where it was transmitted, its bytes are kept in a [`SentList`]. The nodes that the first packets visit are noted, as many as
+//! the options' trace says. Between two rounds no packet is on its way in a worker.
 //!
-//! What calls cost: [`Core::new`] takes all memory. [`Core::round`] copies a packet's bytes into a buffer as it is drawn, and out of
-//! it where it is transmitted; between nodes only its index moves. A node's visits are counted once a frame, and noted packet by
-//! packet only where packets are traced.
+//! What calls cost: [`Worker::new`] takes all memory. A round copies a packet's bytes into a buffer as it is drawn, and out of it
+//! where it is transmitted; between nodes only its index moves, and a packet that is handed over is its buffer moved. A node's
+//! visits are counted once a frame, and noted packet by packet only where packets are traced.
 #![tactic(auto)]
 
 #[cfg(test)]
 mod barrier_tests;
+mod counting;
+mod gating;
+mod incoming;
+pub mod inputs;
+pub mod links;
+mod making;
 pub mod options;
 pub mod parcels;
-pub mod rounds;
+mod peers;
+mod seats;
 pub mod sent;
+pub mod stations;
+mod taking;
 #[cfg(test)]
 mod tests;
+pub mod turns;
 mod underway;
+pub mod workers;
 
+pub use inputs::Input;
+pub use links::{Links, Refused, WorkerLinks};
 pub use options::Options;
 pub use parcels::{Stop, WorkerParcel};
-pub use rounds::{Core, CoreEnd};
 pub use sent::SentList;
+pub use stations::Station;
+pub use turns::Turn;
+pub use workers::{Worker, WorkerEnd};

@@ -6,8 +6,6 @@ use Rattle.std.proofs.lemmas.Option.{same_Some, slice_get_within}
 use Rattle.vg_model.specs.declared.edits.Edit.{Edit}
 use Rattle.vg_model.specs.declared.edits.Edit.TheVariants as edits
 use Rattle.vg_model.specs.declared.edits.EditLine.{EditLine}
-use Rattle.vg_model.specs.declared.fates.End.{End}
-use Rattle.vg_model.specs.declared.fates.End.TheVariants as ends
 use Rattle.vg_model.specs.Graph.{Graph, Node, slots, error_drop}
 use Rattle.vg_model.specs.declared.kinds.Adjacency.{Adjacency}
 use Rattle.vg_model.specs.declared.kinds.Interface.{Interface}
@@ -20,7 +18,7 @@ use Rattle.vg_model.specs.Edit.{Cause, Edited, ◌>>=◌, TooMany, DoubleName, U
 use Rattle.vg_script.specs.Events.{events}
 use Rattle.vg_plan.specs.Plan.{Planned, IsPlan}
 use Rattle.vg_plan.proofs.GenerationLemmas.{length_graphs, all_made}
-use Rattle.vg_engine.specs.Ends.{Grows, IsEndIn, AreNodesOf}
+use Rattle.vg_journeys.specs.Ends.{Grows}
 
 -- what an edit makes of the graph, where it makes one
 abbrev MayGrow : Graph → Edited → Type 0
@@ -158,30 +156,10 @@ to_later plan is generation (suc more) one other at later =
     let next : step.1 ≡ other = same_Some step.1 other (sym step.3 ∙ ap (slice_get plan.graphs) (let e : generation + more + 1 ≡ generation + suc more = omega arith in e) ∙ later) in
     grows_on one step.0 other first (subst (Grows step.0) next (all_grow step.0 step.1 event.0.edits step.4))
 
--- what is in a graph is in one that it grows to
-end_stays : (one other : Graph) (end : End) → Grows one other → IsEndIn one end → IsEndIn other end
-end_stays one other (ends.Tx interface) grows inside = let h = grows.interfaces in omega (arith, h, inside)
-end_stays one other (ends.Dropped node error) grows inside = let h = grows.nodes in omega (arith, h, inside)
-
 -- the graph of a generation grows to that of the last one
-grows_to_last : (plan : Planned) → IsPlan plan → (generation : ℕ) (one last : Graph) → slice_get plan.graphs generation ≡ Some one
+pub grows_to_last : (plan : Planned) → IsPlan plan → (generation : ℕ) (one last : Graph) → slice_get plan.graphs generation ≡ Some one
     → slice_get plan.graphs (length plan.graphs - 1) ≡ Some last → Grows one last
 grows_to_last plan is generation one last at end_at =
     let within = slice_get_within plan.graphs generation one at in
     let gap : generation + (length plan.graphs - 1 - generation) ≡ length plan.graphs - 1 = omega (arith, within) in
     to_later plan is generation (length plan.graphs - 1 - generation) one last at (ap (slice_get plan.graphs) gap ∙ end_at)
-
-nodes_stay : (one other : Graph) (nodes : List ℕ) → Grows one other → AreNodesOf one nodes → AreNodesOf other nodes
-nodes_stay one other [] grows inside = tt
-nodes_stay one other (node ∷ nodes) grows inside =
-    ((let h = grows.nodes in let k = inside.0 in omega (arith, h, k)), nodes_stay one other nodes grows inside.1)
-
--- an end in a generation's graph is in the last one's
-pub end_in_last : (plan : Planned) → IsPlan plan → (generation : ℕ) (one last : Graph) (end : End) → slice_get plan.graphs generation ≡ Some one
-    → slice_get plan.graphs (length plan.graphs - 1) ≡ Some last → IsEndIn one end → IsEndIn last end
-end_in_last plan is generation one last end at end_at inside = end_stays one last end (grows_to_last plan is generation one last at end_at) inside
-
--- and so are the nodes of a generation's graph
-pub nodes_in_last : (plan : Planned) → IsPlan plan → (generation : ℕ) (one last : Graph) (nodes : List ℕ) → slice_get plan.graphs generation ≡ Some one
-    → slice_get plan.graphs (length plan.graphs - 1) ≡ Some last → AreNodesOf one nodes → AreNodesOf last nodes
-nodes_in_last plan is generation one last nodes at end_at inside = nodes_stay one last nodes (grows_to_last plan is generation one last at end_at) inside

@@ -1,104 +1,114 @@
 -- The outcome of a run.
-use Rattle.std.proofs.Common.{◌≡◌, ℕ, ◌-◌, ◌*◌, ◌<◌, ◌≤◌, List, [], ◌∷◌, ◌++◌, length, map, refl, sym, ap, subst, ◌∙◌, arith, length-append}
-use Rattle.std.specs.Prelude.{Bool, true, false, Some, None, slice_get, nat_le, min, ◌==◌, if◌then◌else◌}
-use Rattle.std.specs.List.{AllByRecursion, flat_map, cons_option, enumerate_from}
+use Rattle.std.proofs.Common.{◌≡◌, ℕ, zero, suc, ◌+◌, ◌*◌, ◌<◌, ◌≤◌, ◌^◌, ◌⊎◌, inl, inr, List, [], ◌∷◌, ◌++◌, length, map, get_or, take, min, refl, sym, ap, subst, ◌∙◌, arith, length-append}
+use Rattle.std.specs.Prelude.{Bool, true, Some, None, slice_get, slice_index, All, flat_map, ◌==◌}
+use Rattle.std.specs.List.{AllByRecursion, sum_by, count_by, cons_option}
 use Rattle.std.specs.List.Sorted.{IsPermutation, IsNonDecreasing, IsNonDecreasingBy}
-use Rattle.std.proofs.lemmas.List.{length-map}
-use Rattle.std.proofs.lemmas.List.FromFn.{length-enumerate_from}
-use Rattle.std.proofs.lemmas.List.Sums.{count_by-le-length}
-use Rattle.std.proofs.lemmas.Option.{slice_get_within}
-use Rattle.vg_model.specs.declared.fates.End.{End}
-use Rattle.vg_model.specs.declared.fates.End.TheVariants as ends
+use Rattle.std.proofs.lemmas.List.{length-map, length-replicate, get_or-map, get_or_past, take_all}
+use Rattle.std.proofs.lemmas.Bool.{cases_lt}
+use Rattle.std.proofs.lemmas.Option.{none-some}
+use Rattle.std.proofs.lemmas.List.Sorted.{All-permutation}
+use Rattle.std.proofs.lemmas.List.Sums.{count_by-le-length, sum_by-cons, sum_by-append}
+use Rattle.vg_steps.specs.Seated.{TableId}
+use Rattle.vg_model.specs.PoolBook.{CacheBook}
+use Rattle.vg_model.specs.declared.kinds.DropError.{DropError}
 use Rattle.vg_model.specs.declared.fates.Fate.{Fate}
-use Rattle.vg_model.specs.Graph.{Graph, error_drop}
+use Rattle.vg_model.specs.Errors.{error_number}
+use Rattle.vg_model.specs.Edit.{most_nodes, most_interfaces}
 use Rattle.vg_model.specs.Visit.{Visit}
 use Rattle.vg_model.specs.Leg.{Outcome, Sent, Dropped, Handed}
-use Rattle.vg_model.specs.Journey.{Journey, end_of, journeys, sent, sent_as, longest_packet}
-use Rattle.vg_model.specs.Count.{trace, drop_visit, is_drop, is_sent_on}
-use Rattle.vg_model.specs.Lawful.{StartsAt, IsRefusalLawful}
+use Rattle.vg_model.specs.declared.kinds.DropError.TheVariants as errors
+use Rattle.vg_model.specs.Journey as model
+use Rattle.vg_model.specs.Journey.{Journey, end_of, sent, sent_as, longest_packet}
+use Rattle.vg_model.specs.Count.{trace, is_drop, is_sent_on}
 use Rattle.vg_capture.specs.declared.captures.Capture.{Capture}
-use Rattle.vg_capture.specs.Time.{time}
-use Rattle.vg_script.specs.Events.{Event, events}
-use Rattle.vg_counters.specs.Tally.{Tally}
-use Rattle.vg_counters.specs.Notes.{IsMerged}
-use Rattle.vg_plan.specs.Plan.{Planned, IsPlan, first_generation}
-use Rattle.vg_plan.proofs.GenerationLemmas.{length_graphs}
+use Rattle.vg_plan.specs.Plan.{Planned, IsPlan}
+use Rattle.vg_ring.specs.declared.ends.RingTx.{RingTx}
+use Rattle.vg_ring.specs.declared.ends.RingRx.{RingRx}
+use Rattle.vg_ring.specs.declared.rest.Rest.{Rest}
+use Rattle.vg_barrier.specs.Seats.{main_view}
+use Rattle.vg_counters.specs.Tally.{Tally, IsSameSize, AreOneSize, HasRoom, IsTotal, IsWhole, count_of_errors, nothing_counted, drops_at}
+use Rattle.vg_counters.specs.Notes.{Notes, AreOneLength, IsMerged}
+use Rattle.vg_pool.specs.Settlement.{most_told, settlement_of}
+use Rattle.vg_journeys.specs.Trips.{Run, Taken, number_of}
+use Rattle.vg_journeys.specs.Runs.{AllGrow}
+use Rattle.vg_journeys.specs.Ends.{IsShort}
+use Rattle.vg_journeys.specs.Accounts.{HandoffFrame, frames_with, arrivals_in, frame_arrivals, below}
+use Rattle.vg_journeys.specs.Kept.{AreKept}
+use Rattle.vg_journeys.specs.Outcomes as whole
+use Rattle.vg_journeys.proofs.KeptLemmas.{kept_in_the_end, noted_length}
+use Rattle.vg_journeys.proofs.OutcomeLemmas.{outcome_is, outcome_js}
 use Rattle.vg_dispatch.specs.declared.options.Options.{Options}
-use Rattle.vg_dispatch.specs.Ended.{counted_visits}
-use Rattle.vg_dispatch.specs.Progress.{Progress}
+use Rattle.vg_dispatch.specs.Workers.{WorkerBook}
+use Rattle.vg_dispatch.specs.Standing.{run_of, traced_of, NoneCongested}
 use Rattle.vg_engine.specs.declared.runs.Outcome as code
-use Rattle.vg_engine.specs.Ends.{IsEndIn, IsOutcomeIn, IsShort, AreNodesOf}
-use Rattle.vg_engine.specs.Journeys.{frames, choices_of, leg_under, journey_by, IsOneLeg, AreOneLeg}
-use Rattle.vg_engine.specs.SoFar.{AreCounts, IsSoFar}
-use Rattle.vg_engine.specs.Stations.{IsAt}
+use Rattle.vg_engine.specs.Places.{AllWith, pairs}
+use Rattle.vg_engine.specs.Crews.{IsMember, IsCrew, HaveEnded, account_at}
+use Rattle.vg_engine.specs.Ended.{HasInputs, HasOutputs}
 use Rattle.vg_engine.specs.Turns.{IsLastGraph}
-use Rattle.vg_engine.specs.Outcomes.{IsOutcome}
-use Rattle.vg_engine.proofs.SortLemmas.{NeverFall, never_fall_from}
-use Rattle.vg_engine.proofs.JourneyLemmas.{AreNumbered, journeys_are}
-use Rattle.vg_engine.proofs.OrderLemmas.{fates_are, sent_are}
-use Rattle.vg_engine.proofs.WindowLemmas.{drawn_all, enumerate_numbered, enumerate_values}
-use Rattle.vg_engine.proofs.RoundLemmas.{same_drop_visits}
-use Rattle.vg_engine.proofs.TraceLemmas.{traces_are}
-use Rattle.vg_engine.proofs.GrowthLemmas.{end_in_last, nodes_in_last}
+use Rattle.vg_engine.specs.Outcomes.{AreWholeCounts, IsRestOf, IsOutcome, numbers_in, all_back}
+use Rattle.vg_engine.proofs.PlaceLemmas.{first_get, get_some, all_both, each_pair, with_then}
+use Rattle.vg_engine.proofs.CrewLemmas.{account_is}
+use Rattle.vg_engine.proofs.GrowthLemmas.{grows_to_last}
+use Rattle.vg_engine.proofs.EndLemmas.{IsEmptied, queues_of, moment_is, over_is, by_number, sum_by_number}
 
--- what holds of each such journey
-each_leg : (visit : Visit) (graphs : List Graph) (first : ℕ → ℕ) (P : Journey → Type 0) → ((packet : ℕ × List ℕ) (j : Journey) → IsOneLeg visit graphs first packet j → P j)
-    → (packets : List (ℕ × List ℕ)) (js : List Journey) → AreOneLeg visit graphs first packets js → AllByRecursion P js
-each_leg visit graphs first P each [] [] legs = tt
-each_leg visit graphs first P each (packet ∷ packets) (j ∷ js) legs = (each packet j legs.0, each_leg visit graphs first P each packets js legs.1)
-each_leg visit graphs first P each (packet ∷ packets) [] legs = absurd legs
-each_leg visit graphs first P each [] (j ∷ js) legs = absurd legs
+sum_map : {X Y : Type 0} (f : Y → ℕ) (h : X → Y) (xs : List X) → sum_by f (map h xs) ≡ sum_by (λ x. f (h x)) xs
+sum_map f h [] = refl
+sum_map f h (x ∷ xs) = let rest = sum_map f h xs in omega (arith, rest, sum_by-cons f (h x) (map h xs), sum_by-cons (λ x. f (h x)) x xs)
 
--- the journey of a packet for each packet
-as_many : (visit : Visit) (graphs : List Graph) (first : ℕ → ℕ) (packets : List (ℕ × List ℕ)) (js : List Journey) → AreOneLeg visit graphs first packets js → length js ≡ length packets
-as_many visit graphs first [] [] legs = refl
-as_many visit graphs first (packet ∷ packets) (j ∷ js) legs = let rest = as_many visit graphs first packets js legs.1 in omega (arith, rest)
-as_many visit graphs first (packet ∷ packets) [] legs = absurd legs
-as_many visit graphs first [] (j ∷ js) legs = absurd legs
+-- the numbers of the packets in frames, by the packets as they come to a worker
+numbers_of_one : (count : ℕ → ℕ) (to : ℕ) (frame : HandoffFrame) → sum_by count (map (λ c. c.packet.number) frame.packets) ≡ sum_by (λ e. count (number_of e)) (frame_arrivals to frame)
+numbers_of_one count to frame =
+    sum_map count (λ c. c.packet.number) frame.packets ∙ sym (sum_map (λ e. count (number_of e)) (Taken to frame.node) frame.packets)
 
--- the choices of such a journey are lawful
-starts_at : (visit : Visit) (graphs : List Graph) (first : ℕ → ℕ) (packet : ℕ × List ℕ) (j : Journey) → IsOneLeg visit graphs first packet j
-    → StartsAt (length graphs) (first j.number) (map (λ l. l.generation) j.course.legs)
-starts_at visit graphs first packet j one =
-    let within = slice_get_within graphs (first packet.0) one.graph one.is_graph in
-    let here : StartsAt (length graphs) (first packet.0) (first packet.0 ∷ []) = (refl, (omega arith, within, tt)) in
-    subst (λ (j : Journey). StartsAt (length graphs) (first j.number) (map (λ l. l.generation) j.course.legs)) (sym one.is) here
+numbers_are : (count : ℕ → ℕ) (to : ℕ) (frames : List HandoffFrame) → sum_by count (numbers_in frames) ≡ sum_by (λ e. count (number_of e)) (arrivals_in to frames)
+numbers_are count to [] = refl
+numbers_are count to (frame ∷ frames) =
+    let one = numbers_of_one count to frame in
+    let rest = numbers_are count to frames in
+    omega (
+      arith,
+      one,
+      rest,
+      sum_by-append count (map (λ c. c.packet.number) frame.packets) (numbers_in frames),
+      sum_by-append (λ e. count (number_of e)) (frame_arrivals to frame) (arrivals_in to frames),
+    )
 
-not_refused : (visit : Visit) (graphs : List Graph) (first : ℕ → ℕ) (slots : ℕ) (js : List Journey) (packet : ℕ × List ℕ) (j : Journey) → IsOneLeg visit graphs first packet j
-    → IsRefusalLawful slots js j j.accepted j.course.outcome
-not_refused visit graphs first slots js packet j one =
-    let here : IsRefusalLawful slots js (journey_by packet.0 (first packet.0) one.way) None one.way.outcome = tt in
-    subst (λ (j : Journey). IsRefusalLawful slots js j j.accepted j.course.outcome) (sym one.is) here
+-- all have the sizes of one
+one_size : (none : Tally) (parts : List Tally) → All (λ part. IsSameSize none part) parts → AreOneSize parts
+one_size none [] all d k e h = absurd (omega (arith, h))
+one_size none (part ∷ parts) all d k e h =
+    let first : IsSameSize none part = all 0 e (omega arith) in
+    let here = all k e h in
+    record { nodes = here.nodes ∙ sym first.nodes; interfaces = here.interfaces ∙ sym first.interfaces }
 
-only_leg : (visit : Visit) (graphs : List Graph) (first : ℕ → ℕ) (packet : ℕ × List ℕ) (j : Journey) → IsOneLeg visit graphs first packet j
-    → (j.accepted ≡ None) × (j.course.legs ≡ leg_under (first j.number) ∷ [])
-only_leg visit graphs first packet j one =
-    subst (λ (j : Journey). (j.accepted ≡ None) × (j.course.legs ≡ leg_under (first j.number) ∷ [])) (sym one.is) (refl, refl)
+one_length : (n : ℕ) (parts : List Notes) → All (λ (part : Notes). length part ≡ n) parts → AreOneLength parts
+one_length n [] all d k e h = absurd (omega (arith, h))
+one_length n (part ∷ parts) all d k e h = all k e h ∙ sym (all 0 e (omega arith))
 
-outcome_end : (g : Graph) (outcome : Outcome) → IsOutcomeIn g outcome → IsEndIn g (end_of outcome)
-outcome_end g (Sent interface) inside = inside
-outcome_end g (Dropped node error) inside = inside
-outcome_end g (Handed node worker) inside = inside
+all_map : {X Y : Type 0} (P : Y → Type 0) (f : X → Y) (xs : List X) → ((k : ℕ) (x : X) → slice_get xs k ≡ Some x → P (f x)) → All P (map f xs)
+all_map P f [] each k d h = absurd (omega (arith, h))
+all_map P f (x ∷ xs) each zero d h = each 0 x refl
+all_map P f (x ∷ xs) each (suc k) d h = all_map P f xs (λ i y e. each (suc i) y e) k d (omega (arith, h))
 
--- such a journey ends in the last graph
-ends_in_last : (visit : Visit) (plan : Planned) (first : ℕ → ℕ) (last : Graph) → IsPlan plan → slice_get plan.graphs (length plan.graphs - 1) ≡ Some last
-    → (packet : ℕ × List ℕ) (j : Journey) → IsOneLeg visit plan.graphs first packet j → IsEndIn last (end_of j.course.outcome)
-ends_in_last visit plan first last is at packet j one =
-    subst (λ (j : Journey). IsEndIn last (end_of j.course.outcome)) (sym one.is)
-    (end_in_last plan is (first packet.0) one.graph last (end_of one.way.outcome) one.is_graph at (outcome_end one.graph one.way.outcome one.inside))
+-- a fact of each, as a list and by places
+to_all : {X : Type 0} (P : X → Type 0) (xs : List X) → AllByRecursion P xs → All P xs
+to_all P [] all k d h = absurd (omega (arith, h))
+to_all P (x ∷ xs) all zero d h = all.0
+to_all P (x ∷ xs) all (suc k) d h = to_all P xs all.1 k d (omega (arith, h))
 
--- such a journey visits nodes of the last graph
-visits_in_last : (visit : Visit) (plan : Planned) (first : ℕ → ℕ) (last : Graph) → IsPlan plan → slice_get plan.graphs (length plan.graphs - 1) ≡ Some last
-    → (packet : ℕ × List ℕ) (j : Journey) → IsOneLeg visit plan.graphs first packet j → AreNodesOf last (trace j)
-visits_in_last visit plan first last is at packet j one =
-    let same : counted_visits one.way ≡ trace j = ap (λ vs. one.way.visits ++ vs) (same_drop_visits one.way.outcome one.stays) ∙ ap trace (sym one.is) in
-    subst (AreNodesOf last) same (nodes_in_last plan is (first packet.0) one.graph last (counted_visits one.way) one.is_graph at one.passes)
+from_all : {X : Type 0} (P : X → Type 0) (xs : List X) → All P xs → AllByRecursion P xs
+from_all P [] all = tt
+from_all P (x ∷ xs) all = (all 0 x (omega arith), from_all P xs (λ k d h. all (suc k) d (omega (arith, h))))
 
--- what such journeys send fits a buffer
-short_leg : (visit : Visit) (graphs : List Graph) (first : ℕ → ℕ) (packet : ℕ × List ℕ) (j : Journey) → IsOneLeg visit graphs first packet j
-    → IsShort j.course.outcome j.course.packet.bytes
-short_leg visit graphs first packet j one = subst (λ (j : Journey). IsShort j.course.outcome j.course.packet.bytes) (sym one.is) one.short
+all_joined : {X Y : Type 0} (P : Y → Type 0) (f : X → List Y) (xs : List X) → ((k : ℕ) (x : X) → slice_get xs k ≡ Some x → AllByRecursion P (f x)) → AllByRecursion P (flat_map f xs)
+all_joined P f [] each = tt
+all_joined P f (x ∷ xs) each = all_both P (f x) (flat_map f xs) (each 0 x refl) (all_joined P f xs (λ k y e. each (suc k) y e))
 
+joined_map : {X Y : Type 0} (f : X → List Y) (xs : List X) → flat_map (λ (ys : List Y). ys) (map f xs) ≡ flat_map f xs
+joined_map f [] = refl
+joined_map f (x ∷ xs) = ap (λ ys. f x ++ ys) (joined_map f xs)
+
+-- what is sent fits a buffer
 short_behind : (number : ℕ) (bytes : List ℕ) (outcome : Outcome) (behind : List (ℕ × List ℕ)) → IsShort outcome bytes → AllByRecursion (λ (s : ℕ × List ℕ). length s.1 ≤ longest_packet) behind
     → AllByRecursion (λ (s : ℕ × List ℕ). length s.1 ≤ longest_packet) (cons_option (sent_as number bytes outcome) behind)
 short_behind number bytes (Sent interface) behind short rest = (short, rest)
@@ -109,123 +119,278 @@ short_sent : (js : List Journey) → AllByRecursion (λ j. IsShort j.course.outc
 short_sent [] short = tt
 short_sent (j ∷ js) short = short_behind j.number j.course.packet.bytes j.course.outcome (sent js) short.0 (short_sent js short.1)
 
--- a trace has few nodes
-few_drop_visits : (end : End) → length (drop_visit end) ≤ 1
-few_drop_visits (ends.Tx interface) = omega arith
-few_drop_visits (ends.Dropped node error) = here (node == error_drop)
+-- traces have few nodes
+short_traces : (most : ℕ) (js : List Journey) → AllByRecursion (λ j. length (trace j) ≤ most) js → length (flat_map trace js) ≤ most * length js
+short_traces most [] few = omega arith
+short_traces most (j ∷ js) few =
+    let here = few.0 in
+    let rest = short_traces most js few.1 in
+    let more : most * suc (length js) ≡ most + most * length js = mul_suc most (length js) in
+    omega (arith, here, rest, more, length-append (trace j) (flat_map trace js))
   where
-    here : (b : Bool) → length (if b then [] else error_drop ∷ []) ≤ 1
-    here true = omega arith
-    here false = omega arith
+    mul_suc : (m n : ℕ) → m * suc n ≡ m + m * n
+    mul_suc m n = grind arith
 
-short_trace : (visit : Visit) (graphs : List Graph) (first : ℕ → ℕ) (packet : ℕ × List ℕ) (j : Journey) → IsOneLeg visit graphs first packet j → length (trace j) ≤ 66
-short_trace visit graphs first packet j one =
-    let few = one.few in
-    let drop = few_drop_visits (end_of one.way.outcome) in
-    subst (λ (j : Journey). length (trace j) ≤ 66) (sym one.is)
-    (omega (arith, few, drop, length-append one.way.visits (drop_visit (end_of one.way.outcome))))
-
-short_traces : (visit : Visit) (graphs : List Graph) (first : ℕ → ℕ) (packets : List (ℕ × List ℕ)) (js : List Journey) → AreOneLeg visit graphs first packets js
-    → length (flat_map trace js) ≤ 66 * length js
-short_traces visit graphs first [] [] legs = omega arith
-short_traces visit graphs first (packet ∷ packets) (j ∷ js) legs =
-    let here = short_trace visit graphs first packet j legs.0 in
-    let rest = short_traces visit graphs first packets js legs.1 in
-    omega (arith, here, rest, length-append (trace j) (flat_map trace js))
-short_traces visit graphs first (packet ∷ packets) [] legs = absurd legs
-short_traces visit graphs first [] (j ∷ js) legs = absurd legs
-
--- every packet begins before there are no more generations
-first_within : (plan : Planned) (capture : Capture) (i : ℕ) → IsPlan plan → first_generation plan.script capture i < length plan.graphs
-first_within plan capture i is =
-    let count = length_graphs plan is in
-    let few = count_by-le-length (λ (e : Event). nat_le e.time (time capture i)) (events plan.script) in
-    omega (arith, count, few)
-
--- all packets are drawn at the end
-all_drawn : (visit : Visit) (plan : Planned) (capture : Capture) (options : Options) (p : Progress) → IsPlan plan → IsAt visit plan capture options (length plan.graphs) p
-    → length capture.packets ≤ p.mark
-all_drawn visit plan capture options p is at =
-    here (length capture.packets) p.mark (λ h. let low = at.low p.mark (omega arith) h in let high = first_within plan capture p.mark is in omega (arith, low, high))
+take_min : {X : Type 0} (n : ℕ) (xs : List X) (m : ℕ) → length xs ≡ m → take (min n m) xs ≡ take n xs
+take_min n xs m same = here (cases n m)
   where
-    here : (n m : ℕ) → (m < n → ⊥) → n ≤ m
-    here n m never = omega (arith, never)
+    cases : (a b : ℕ) → (a ≤ b) ⊎ (b ≤ a)
+    cases a b = grind arith
 
-never_fall_map : {X : Type 0} (number : X → ℕ) (least : ℕ) (xs : List X) → NeverFall (λ n. n) least (map number xs) → NeverFall number least xs
-never_fall_map number least [] falls = tt
-never_fall_map number least (x ∷ xs) falls = (falls.0, never_fall_map number (number x) xs falls.1)
+    here : (n ≤ m) ⊎ (m ≤ n) → take (min n m) xs ≡ take n xs
+    here (inl h) = ap (λ k. take k xs) (let z : min n m ≡ n = omega (arith, h) in z)
+    here (inr h) = take_all (min n m) xs (omega (arith, h, same)) ∙ sym (take_all n xs (omega (arith, h, same)))
 
-each_at_least : {X : Type 0} (number : X → ℕ) (xs : List X) → AllByRecursion (λ x. 0 ≤ number x) xs
-each_at_least number [] = tt
-each_at_least number (x ∷ xs) = (omega arith, each_at_least number xs)
+-- an error by its number
+error_of : (n : ℕ) → n < 19 → (error : DropError) × (error_number error ≡ n)
+error_of zero h = (errors.Short, refl)
+error_of (suc zero) h = (errors.TooLong, refl)
+error_of (suc (suc zero)) h = (errors.UnknownType, refl)
+error_of (suc (suc (suc zero))) h = (errors.WrongMac, refl)
+error_of (suc (suc (suc (suc zero)))) h = (errors.BadVersion, refl)
+error_of (suc (suc (suc (suc (suc zero))))) h = (errors.BadHeaderLength, refl)
+error_of (suc (suc (suc (suc (suc (suc n)))))) h = later n (omega (arith, h))
+  where
+    last : (n : ℕ) → n < 7 → (error : DropError) × (error_number error ≡ suc (suc (suc (suc (suc (suc (suc (suc (suc (suc (suc (suc n))))))))))))
+    last zero h = (errors.Local, refl)
+    last (suc zero) h = (errors.TtlExpired, refl)
+    last (suc (suc zero)) h = (errors.MtuExceeded, refl)
+    last (suc (suc (suc zero))) h = (errors.InterfaceDown, refl)
+    last (suc (suc (suc (suc zero)))) h = (errors.Congestion, refl)
+    last (suc (suc (suc (suc (suc zero))))) h = (errors.HandoffLimit, refl)
+    last (suc (suc (suc (suc (suc (suc zero)))))) h = (errors.Blackhole, refl)
+    last (suc (suc (suc (suc (suc (suc (suc n))))))) h = absurd (omega (arith, h))
 
--- the outcome is that of the run, once all generations are through
-pub outcome_is : (visit : Visit) (plan : Planned) (capture : Capture) (options : Options) (p : Progress) (outcome : code.Outcome) → IsPlan plan → length capture.packets ≤ 65536
-    → IsAt visit plan capture options (length plan.graphs) p
-    → IsPermutation p.log outcome.fates → IsNonDecreasingBy (λ (f : Fate). f.number) outcome.fates
-    → IsPermutation p.sent outcome.sent → IsNonDecreasing (map (λ (s : ℕ × List ℕ). s.0) outcome.sent)
-    → outcome.counts ≡ p.counts → IsMerged (p.trace ∷ []) outcome.trace → outcome.buffers ≡ options.buffers → IsLastGraph plan.graphs outcome.last
-    → IsOutcome visit plan.graphs (first_generation plan.script capture) capture options outcome
-outcome_is visit plan capture options p outcome is few at fates_moved fates_up sent_moved sent_up counts merged buffers last =
-    let first : ℕ → ℕ = first_generation plan.script capture in
-    let packets : List (ℕ × List ℕ) = enumerate_from 0 (frames capture.packets) in
-    let so_far : IsSoFar visit plan.graphs first packets p =
-    subst (λ ps. IsSoFar visit plan.graphs first ps p) (drawn_all p.mark capture.packets (all_drawn visit plan capture options p is at)) at.so_far in
-    let js : List Journey = so_far.js in
-    let numbered : AreNumbered 0 packets = enumerate_numbered 0 (frames capture.packets) in
-    let all : length js ≡ length capture.packets =
-    omega (arith, as_many visit plan.graphs first packets js so_far.legs, length-enumerate_from 0 (frames capture.packets), length-map capture.packets (λ p. p.bytes)) in
-    let many : length js ≤ 65536 = omega (arith, all, few) in
-    let are_sent : outcome.sent ≡ sent js =
-    sent_are visit plan.graphs first packets p so_far outcome.sent numbered sent_moved
-    (never_fall_map (λ (s : ℕ × List ℕ). s.0) 0 outcome.sent
-    (never_fall_from (λ n. n) 0 (map (λ (s : ℕ × List ℕ). s.0) outcome.sent) (each_at_least (λ n. n) (map (λ (s : ℕ × List ℕ). s.0) outcome.sent)) sent_up)) in
-    let tally : AreCounts js outcome.counts = subst (AreCounts js) (sym counts) so_far.counts in
-    record {
-      js = js;
-      lawful = record {
-        are_journeys =
-            ap (λ bytes. journeys visit plan.graphs 1 bytes (choices_of first packets)) (sym (enumerate_values 0 (frames capture.packets)))
-            ∙ journeys_are visit plan.graphs first 0 packets js numbered so_far.legs;
-        lawful = record {
-          generations =
-              each_leg visit plan.graphs first (λ j. StartsAt (length plan.graphs) (first j.number) (map (λ l. l.generation) j.course.legs)) (starts_at visit plan.graphs first) packets js so_far.legs;
-          refusals =
-              each_leg visit plan.graphs first (λ j. IsRefusalLawful options.queue js j j.accepted j.course.outcome) (not_refused visit plan.graphs first options.queue js) packets js so_far.legs;
-        };
-      };
-      legs = each_leg visit plan.graphs first (λ j. (j.accepted ≡ None) × (j.course.legs ≡ leg_under (first j.number) ∷ [])) (only_leg visit plan.graphs first) packets js so_far.legs;
-      are_fates =
-          fates_are visit plan.graphs first packets p so_far outcome.fates numbered fates_moved
-          (never_fall_from (λ (f : Fate). f.number) 0 outcome.fates (each_at_least (λ (f : Fate). f.number) outcome.fates) fates_up);
-      are_sent = are_sent;
-      short =
-          subst (AllByRecursion (λ (s : ℕ × List ℕ). length s.1 ≤ longest_packet)) (sym are_sent)
-          (short_sent js (each_leg visit plan.graphs first (λ j. IsShort j.course.outcome j.course.packet.bytes) (short_leg visit plan.graphs first) packets js so_far.legs));
-      counts = tally;
-      whole = record {
-        nodes = ap (λ (t : Tally). length t.visits) counts ∙ at.nodes;
-        interfaces = ap (λ (t : Tally). length t.sends) counts ∙ at.interfaces;
-        visits = λ node.
-            let same = tally.visits node in
-            let within = count_by-le-length (λ n. n == node) (flat_map trace js) in
-            let short = short_traces visit plan.graphs first packets js so_far.legs in
-            omega (arith, same, within, short, many);
-        drops = λ node error.
-            let same = tally.drops node error in
-            let within = count_by-le-length (λ j. is_drop node error (end_of j.course.outcome)) js in
-            omega (arith, same, within, many);
-        sends = λ interface.
-            let same = tally.sends interface in
-            let within = count_by-le-length (λ j. is_sent_on interface (end_of j.course.outcome)) js in
-            omega (arith, same, within, many);
-      };
-      traces =
-          traces_are visit plan.graphs first packets js options.trace p.trace outcome.trace numbered so_far.legs (at.traced ∙ ap (min options.trace) (sym all)) so_far.notes merged;
-      buffers = buffers;
-      last = last.whole;
-      is_last = record { is = last.is };
-      last_is = last.parts;
-      ends = each_leg visit plan.graphs first (λ j. IsEndIn last.whole (end_of j.course.outcome)) (ends_in_last visit plan first last.whole is last.is) packets js so_far.legs;
-      visits = each_leg visit plan.graphs first (λ j. AreNodesOf last.whole (trace j)) (visits_in_last visit plan first last.whole is last.is) packets js so_far.legs;
-    }
+    later : (n : ℕ) → n < 13 → (error : DropError) × (error_number error ≡ suc (suc (suc (suc (suc (suc n))))))
+    later zero h = (errors.BadLength, refl)
+    later (suc zero) h = (errors.BadChecksum, refl)
+    later (suc (suc zero)) h = (errors.TtlZero, refl)
+    later (suc (suc (suc zero))) h = (errors.Unchecked, refl)
+    later (suc (suc (suc (suc zero)))) h = (errors.NoRoute, refl)
+    later (suc (suc (suc (suc (suc zero))))) h = (errors.RouteDrop, refl)
+    later (suc (suc (suc (suc (suc (suc n)))))) h = last n (omega (arith, h))
+
+-- nothing is counted for a number that no error has
+row_ends : (node error : ℕ) (rows : List (List ℕ)) → 19 ≤ error → All (λ row. length row ≡ count_of_errors) rows → drops_at node error rows ≡ 0
+row_ends node error [] h all = refl
+row_ends zero error (row ∷ rows) h all = get_or_past row error 0 (let len : length row ≡ 19 = all 0 row (omega arith) in omega (arith, len, h))
+row_ends (suc node) error (row ∷ rows) h all = row_ends node error rows h (λ k d g. all (suc k) d (omega (arith, g)))
+
+no_drops : (node error : ℕ) → 19 ≤ error → (parts : List Tally) → AllByRecursion IsWhole parts → sum_by (λ part. drops_at node error part.drops) parts ≡ 0
+no_drops node error h [] all = refl
+no_drops node error h (part ∷ parts) all =
+    let here = row_ends node error part.drops h all.0.errors in
+    let rest = no_drops node error h parts all.1 in
+    omega (arith, here, rest, sum_by-cons (λ (p : Tally). drops_at node error p.drops) part parts)
+
+-- numbers that rise, in a list of their own
+rises_by : {X : Type 0} (number : X → ℕ) (xs : List X) → IsNonDecreasing (map number xs) → IsNonDecreasingBy number xs
+rises_by number xs up i j d le lt =
+    let size = length-map xs number in
+    let at : (k : ℕ) → k < length xs → get_or (map number xs) k (number d) ≡ number (get_or xs k d) = λ k inside. get_or-map number xs k d (number d) inside in
+    let first = at i (omega (arith, le, lt)) in
+    let last = at j lt in
+    let order = up i j (number d) le (omega (arith, lt, size)) in
+    omega (arith, first, last, order)
+
+-- what the workers have kept at the end of a run
+pub kept_is : (visit : Visit) (lossless : Bool) (plan : Planned) (capture : Capture) (options : Options) (barrier : TableId) (ws : List WorkerBook)
+    (crew : IsCrew visit lossless plan capture options barrier ws) (outputs : List (List (RingTx HandoffFrame))) (inputs : List (List (RingRx HandoffFrame))) (rests : List (Rest HandoffFrame))
+    → AllWith HasOutputs ws outputs → AllWith HasInputs ws inputs → AllWith (IsEmptied (queues_of crew.ring ws)) (pairs options.workers) rests → HaveEnded ws → 0 < options.workers
+    → AreKept (run_of visit plan capture options) (traced_of capture options) (account_at ws)
+kept_is visit lossless plan capture options barrier ws crew outputs inputs rests outs ins emptied ended some_workers =
+    kept_in_the_end (run_of visit plan capture options) (traced_of capture options) (account_at ws) (λ from to. [])
+    (moment_is visit lossless plan capture options barrier ws crew outputs inputs rests outs ins emptied) some_workers (over_is visit lossless plan capture options barrier ws crew ended)
+
+module _ (visit : Visit) (lossless : Bool) (plan : Planned) (capture : Capture) (options : Options) (barrier : TableId) (ws : List WorkerBook)
+    (crew : IsCrew visit lossless plan capture options barrier ws) (few : length capture.packets ≤ 65536) (some_workers : 0 < options.workers)
+    (kept : AreKept (run_of visit plan capture options) (traced_of capture options) (account_at ws)) where
+  -- sums over the workers are those of the journeys
+  visits_are : (node : ℕ) → sum_by (λ part. slice_index part.visits node) (map (λ (w : WorkerBook). w.counts) ws) ≡ count_by (λ n. n == node) (flat_map trace kept.js)
+  visits_are node =
+      sum_map (λ (part : Tally). slice_index part.visits node) (λ (w : WorkerBook). w.counts) ws ∙ sum_by_number (λ a. slice_index a.counts.visits node) ws
+      ∙ ap (λ n. sum_by (λ k. slice_index (account_at ws k).counts.visits node) (below n)) crew.count ∙ kept.visits node
+
+  drops_are : (node : ℕ) (error : DropError) → sum_by (λ part. drops_at node (error_number error) part.drops) (map (λ (w : WorkerBook). w.counts) ws)
+      ≡ count_by (λ j. is_drop node error (end_of j.course.outcome)) kept.js
+  drops_are node error =
+      sum_map (λ (part : Tally). drops_at node (error_number error) part.drops) (λ (w : WorkerBook). w.counts) ws ∙ sum_by_number (λ a. drops_at node (error_number error) a.counts.drops) ws
+      ∙ ap (λ n. sum_by (λ k. drops_at node (error_number error) (account_at ws k).counts.drops) (below n)) crew.count ∙ kept.drops node error
+
+  sends_are : (interface : ℕ) → sum_by (λ part. slice_index part.sends interface) (map (λ (w : WorkerBook). w.counts) ws) ≡ count_by (λ j. is_sent_on interface (end_of j.course.outcome)) kept.js
+  sends_are interface =
+      sum_map (λ (part : Tally). slice_index part.sends interface) (λ (w : WorkerBook). w.counts) ws ∙ sum_by_number (λ a. slice_index a.counts.sends interface) ws
+      ∙ ap (λ n. sum_by (λ k. slice_index (account_at ws k).counts.sends interface) (below n)) crew.count ∙ kept.sends interface
+
+  many : length kept.js ≤ 65536
+  many = let all = kept.as_many in let same = length-map capture.packets (λ captured. captured.bytes) in omega (arith, all, same, few)
+
+  few_visits : (node : ℕ) → count_by (λ n. n == node) (flat_map trace kept.js) < 2 ^ 62
+  few_visits node =
+      let within = count_by-le-length (λ n. n == node) (flat_map trace kept.js) in
+      let short = short_traces 264 kept.js kept.inside.few in
+      let all = many in
+      omega (arith, within, short, all)
+
+  few_drops : (node : ℕ) (error : DropError) → count_by (λ j. is_drop node error (end_of j.course.outcome)) kept.js < 2 ^ 62
+  few_drops node error = let within = count_by-le-length (λ j. is_drop node error (end_of j.course.outcome)) kept.js in let all = many in omega (arith, within, all)
+
+  few_sends : (interface : ℕ) → count_by (λ j. is_sent_on interface (end_of j.course.outcome)) kept.js < 2 ^ 62
+  few_sends interface = let within = count_by-le-length (λ j. is_sent_on interface (end_of j.course.outcome)) kept.js in let all = many in omega (arith, within, all)
+
+  -- so they have room to be added
+  pub room_is : AllByRecursion IsWhole (map (λ (w : WorkerBook). w.counts) ws) → HasRoom (map (λ (w : WorkerBook). w.counts) ws)
+  room_is wholes = record {
+    visits = λ node. let same = visits_are node in let low = few_visits node in omega (arith, same, low);
+    drops = λ node error. elim (cases_lt error 19) [
+      | inl named ↦
+          (let e = error_of error named in
+          let low : sum_by (λ part. drops_at node (error_number e.0) part.drops) (map (λ (w : WorkerBook). w.counts) ws) < 2 ^ 63 =
+          (let same = drops_are node e.0 in let few = few_drops node e.0 in omega (arith, same, few)) in
+          subst (λ n. sum_by (λ part. drops_at node n part.drops) (map (λ (w : WorkerBook). w.counts) ws) < 2 ^ 63) e.1 low)
+      | inr beyond ↦ (let none = no_drops node error beyond (map (λ (w : WorkerBook). w.counts) ws) wholes in omega (arith, none))
+    ];
+    sends = λ interface. let same = sends_are interface in let low = few_sends interface in omega (arith, same, low);
+  }
+
+  -- each worker's counts and notes have their sizes
+  sizes_are : All (λ part. IsSameSize (nothing_counted most_nodes most_interfaces) part) (map (λ (w : WorkerBook). w.counts) ws)
+  sizes_are = all_map (λ part. IsSameSize (nothing_counted most_nodes most_interfaces) part) (λ (w : WorkerBook). w.counts) ws
+      (λ k w e. (first_get (IsMember visit lossless plan capture options barrier crew.ring) ws k w crew.each e).stands.work.stands.adds.size)
+
+  lengths_are : All (λ (part : Notes). length part ≡ traced_of capture options) (map (λ (w : WorkerBook). w.trace) ws)
+  lengths_are = all_map (λ (part : Notes). length part ≡ traced_of capture options) (λ (w : WorkerBook). w.trace) ws
+      (λ k w e. (first_get (IsMember visit lossless plan capture options barrier crew.ring) ws k w crew.each e).stands.work.stands.adds.traced ∙ noted_length (traced_of capture options))
+
+  pub one_size_is : AreOneSize (map (λ (w : WorkerBook). w.counts) ws)
+  one_size_is = one_size (nothing_counted most_nodes most_interfaces) (map (λ (w : WorkerBook). w.counts) ws) sizes_are
+
+  pub one_length_is : AreOneLength (map (λ (w : WorkerBook). w.trace) ws)
+  one_length_is = one_length (traced_of capture options) (map (λ (w : WorkerBook). w.trace) ws) lengths_are
+
+  -- the counts together are whole
+  counts_whole : (counts : Tally) → IsTotal (map (λ (w : WorkerBook). w.counts) ws) counts → AreWholeCounts counts
+  counts_whole counts total =
+      let first = get_some ws 0 (let count = crew.count in omega (arith, count, some_workers)) in
+      let size = size_of ws first.0 first.1 counts total.size sizes_are in
+      record {
+        nodes = size.nodes ∙ length-replicate {A = ℕ} most_nodes 0;
+        interfaces = size.interfaces ∙ length-replicate {A = ℕ} most_interfaces 0;
+        visits = λ node. let is = total.visits node in let same = visits_are node in let low = few_visits node in omega (arith, is, same, low);
+        drops = λ node error. let is = total.drops node (error_number error) in let same = drops_are node error in let low = few_drops node error in omega (arith, is, same, low);
+        sends = λ interface. let is = total.sends interface in let same = sends_are interface in let low = few_sends interface in omega (arith, is, same, low);
+      }
+    where
+      size_of : (vs : List WorkerBook) (w : WorkerBook) → slice_get vs 0 ≡ Some w → (counts : Tally) → All (λ part. IsSameSize part counts) (map (λ (w : WorkerBook). w.counts) vs)
+          → All (λ part. IsSameSize (nothing_counted most_nodes most_interfaces) part) (map (λ (w : WorkerBook). w.counts) vs) → IsSameSize (nothing_counted most_nodes most_interfaces) counts
+      size_of [] w e counts all sizes = absurd (none-some w e)
+      size_of (v ∷ vs) w e counts all sizes =
+          let one = all 0 v.counts (omega arith) in
+          let two = sizes 0 v.counts (omega arith) in
+          record { nodes = one.nodes ∙ two.nodes; interfaces = one.interfaces ∙ two.interfaces }
+
+  -- a buffer was given out for each packet, and all are back
+  pub record AreBack (caches : List CacheBook) : Type 0 where
+    pub freed : sum_by (λ (c : CacheBook). c.freed) caches ≡ sum_by (λ (c : CacheBook). c.allocated) caches
+    pub allocated : sum_by (λ (c : CacheBook). c.allocated) caches ≡ length kept.js
+
+  pub buffers_are : (caches : List CacheBook) → caches ≡ map (λ (w : WorkerBook). w.cache) ws → AreBack caches
+  buffers_are caches is =
+      let freed : sum_by (λ (c : CacheBook). c.freed) caches ≡ length (run_of visit plan capture options).packets =
+      ap (sum_by (λ (c : CacheBook). c.freed)) is ∙ sum_map (λ (c : CacheBook). c.freed) (λ (w : WorkerBook). w.cache) ws ∙ sum_by_number (λ a. a.freed) ws
+      ∙ ap (λ n. sum_by (λ k. (account_at ws k).freed) (below n)) crew.count ∙ kept.freed in
+      let allocated : sum_by (λ (c : CacheBook). c.allocated) caches ≡ length (run_of visit plan capture options).packets =
+      ap (sum_by (λ (c : CacheBook). c.allocated)) is ∙ sum_map (λ (c : CacheBook). c.allocated) (λ (w : WorkerBook). w.cache) ws ∙ sum_by_number (λ a. a.allocated) ws
+      ∙ ap (λ n. sum_by (λ k. (account_at ws k).allocated) (below n)) crew.count ∙ kept.allocated in
+      record { freed = freed ∙ sym allocated; allocated = allocated ∙ sym kept.as_many }
+
+  -- the settlement of their pool
+  pub settled_is : (caches : List CacheBook) (len : ℕ) → AreBack caches → len ≡ options.buffers → settlement_of options.buffers len caches ≡ all_back options.buffers (length kept.js)
+  settled_is caches len back all =
+      let packets = kept.as_many in
+      let same_packets : length (run_of visit plan capture options).packets ≡ length capture.packets = length-map capture.packets (λ captured. captured.bytes) in
+      let allocated = back.allocated in
+      let told : min (sum_by (λ (c : CacheBook). c.allocated) caches) most_told ≡ length kept.js = omega (arith, allocated, packets, same_packets, few) in
+      ap (λ n. settlement_of options.buffers n caches) all ∙ ap (λ n. record { len = options.buffers; total = options.buffers; allocated = n }) told
+
+  -- what was gathered is what the journeys say
+  gathered_is : (fates : List Fate) (sent : List (ℕ × List ℕ)) (counts : Tally) (traces : List (List ℕ))
+      → IsPermutation (flat_map (λ (log : List Fate). log) (map (λ (w : WorkerBook). w.log) ws)) fates → IsNonDecreasingBy (λ (f : Fate). f.number) fates
+      → IsPermutation (flat_map (λ (list : List (ℕ × List ℕ)). list) (map (λ (w : WorkerBook). w.sent) ws)) sent → IsNonDecreasing (map (λ (s : ℕ × List ℕ). s.0) sent)
+      → IsTotal (map (λ (w : WorkerBook). w.counts) ws) counts → IsMerged (map (λ (w : WorkerBook). w.trace) ws) traces
+      → whole.IsGathered (run_of visit plan capture options) (account_at ws) fates sent counts traces
+  gathered_is fates sent counts traces fates_moved fates_rise sent_moved sent_rise total merged = record {
+    fates =
+        subst (λ log. IsPermutation log fates)
+        (ap (flat_map (λ (log : List Fate). log)) (by_number (λ a. a.log) ws ∙ ap (λ n. map (λ k. (account_at ws k).log) (below n)) crew.count) ∙ joined_map (λ k. (account_at ws k).log) (below options.workers)) fates_moved;
+    fates_rise = fates_rise;
+    sent =
+        subst (λ list. IsPermutation list sent)
+        (ap (flat_map (λ (list : List (ℕ × List ℕ)). list)) (by_number (λ a. a.sent) ws ∙ ap (λ n. map (λ k. (account_at ws k).sent) (below n)) crew.count) ∙ joined_map (λ k. (account_at ws k).sent) (below options.workers)) sent_moved;
+    sent_rise = rises_by (λ (s : ℕ × List ℕ). s.0) sent sent_rise;
+    total = subst (λ parts. IsTotal parts counts) (by_number (λ a. a.counts) ws ∙ ap (λ n. map (λ k. (account_at ws k).counts) (below n)) crew.count) total;
+    merged = subst (λ parts. IsMerged parts traces) (by_number (λ a. a.trace) ws ∙ ap (λ n. map (λ k. (account_at ws k).trace) (below n)) crew.count) merged;
+  }
+
+  -- no fate is congested where the handoffs refuse nothing
+  none_congested_is : (fates : List Fate) → IsPermutation (flat_map (λ (log : List Fate). log) (map (λ (w : WorkerBook). w.log) ws)) fates → lossless ≡ true → NoneCongested fates
+  none_congested_is fates moved is =
+      from_all (λ (f : Fate). f.congested ≡ None) fates
+      (All-permutation (λ (f : Fate). f.congested ≡ None) _ fates moved
+      (to_all (λ (f : Fate). f.congested ≡ None) _
+      (subst (AllByRecursion (λ (f : Fate). f.congested ≡ None)) (sym (joined_map (λ (w : WorkerBook). w.log) ws))
+      (all_joined (λ (f : Fate). f.congested ≡ None) (λ (w : WorkerBook). w.log) ws
+      (λ k w e. (first_get (IsMember visit lossless plan capture options barrier crew.ring) ws k w crew.each e).stands.work.none_congested is)))))
+
+  -- the closed queues are those of the journeys
+  rests_are : (rests : List (Rest HandoffFrame)) → AllWith (IsEmptied (queues_of crew.ring ws)) (pairs options.workers) rests → AllWith (IsRestOf kept.js) (pairs options.workers) rests
+  rests_are rests emptied =
+      with_then (IsEmptied (queues_of crew.ring ws)) (IsRestOf kept.js) (pairs options.workers) rests emptied
+      (each_pair (λ pair. (rest : Rest HandoffFrame) → IsEmptied (queues_of crew.ring ws) pair rest → IsRestOf kept.js pair rest) options.workers options.workers (omega arith)
+      (λ a b low high differs rest is. record {
+        empty = is.none_left;
+        packets = λ count. ap (λ frames. sum_by count (numbers_in frames)) is.put_is ∙ numbers_are count b (frames_with b (account_at ws a).put) ∙ kept.hands a b low high count;
+      }))
+
+  -- the theorem
+  pub is_outcome : (outcome : code.Outcome) (rests : List (Rest HandoffFrame)) → IsPlan plan
+      → IsPermutation (flat_map (λ (log : List Fate). log) (map (λ (w : WorkerBook). w.log) ws)) outcome.fates → IsNonDecreasingBy (λ (f : Fate). f.number) outcome.fates
+      → IsPermutation (flat_map (λ (list : List (ℕ × List ℕ)). list) (map (λ (w : WorkerBook). w.sent) ws)) outcome.sent → IsNonDecreasing (map (λ (s : ℕ × List ℕ). s.0) outcome.sent)
+      → IsTotal (map (λ (w : WorkerBook). w.counts) ws) outcome.counts → IsMerged (map (λ (w : WorkerBook). w.trace) ws) outcome.trace
+      → outcome.buffers ≡ options.buffers → outcome.settled ≡ all_back options.buffers (length kept.js) → IsLastGraph plan.graphs outcome.last → outcome.rests ≡ rests
+      → AllWith (IsEmptied (queues_of crew.ring ws)) (pairs options.workers) rests → length plan.graphs ≤ (main_view outcome.seat.seat).stamp
+      → IsOutcome visit lossless plan.graphs (run_of visit plan capture options).first capture options outcome
+  is_outcome outcome rests is fates_moved fates_rise sent_moved sent_rise total merged buffers settled last rests_is emptied stamp =
+      let run : Run = run_of visit plan capture options in
+      let traced : ℕ = traced_of capture options in
+      let same_packets : length run.packets ≡ length capture.packets = length-map capture.packets (λ captured. captured.bytes) in
+      let traced_few : traced ≤ length run.packets = omega (arith, same_packets) in
+      let first = get_some ws 0 (let count = crew.count in omega (arith, count, some_workers)) in
+      let noted : length (account_at ws 0).trace ≡ traced =
+      ap (λ a. length a.trace) (account_is ws 0 first.0 first.1) ∙ (first_get (IsMember visit lossless plan capture options barrier crew.ring) ws 0 first.0 crew.each first.1).stands.work.stands.adds.traced ∙ noted_length traced in
+      let gathered = gathered_is outcome.fates outcome.sent outcome.counts outcome.trace fates_moved fates_rise sent_moved sent_rise total merged in
+      let done = outcome_is run traced (account_at ws) outcome.fates outcome.sent outcome.counts outcome.trace kept some_workers traced_few noted gathered in
+      let same : done.js ≡ kept.js = outcome_js run traced (account_at ws) outcome.fates outcome.sent outcome.counts outcome.trace kept some_workers traced_few noted gathered in
+      let js : List Journey = kept.js in
+      let grows : AllGrow run last.whole = λ generation g at. grows_to_last plan is generation g last.whole at last.is in
+      record {
+        choices = kept.choices;
+        js = js;
+        lawful = kept.lawful;
+        are_fates = done.are_fates ∙ ap model.fates same;
+        are_sent = done.are_sent ∙ ap model.sent same;
+        short = subst (AllByRecursion (λ (s : ℕ × List ℕ). length s.1 ≤ longest_packet)) (sym (done.are_sent ∙ ap model.sent same)) (short_sent js kept.inside.short);
+        none_congested = none_congested_is outcome.fates fates_moved;
+        counts = subst (λ l. whole.AreCounts l outcome.counts) same done.are_counts;
+        whole = counts_whole outcome.counts total;
+        traces = done.are_traces ∙ ap (λ l. map trace (take traced l)) same ∙ ap (map trace) (take_min options.trace js (length capture.packets) (kept.as_many ∙ same_packets));
+        buffers = buffers;
+        settled = settled;
+        last = last.whole;
+        is_last = record { is = last.is };
+        last_is = last.parts;
+        ends = kept.inside.ends last.whole grows;
+        visits = kept.inside.nodes last.whole grows;
+        rests = subst (AllWith (IsRestOf js) (pairs options.workers)) (sym rests_is) (rests_are rests emptied);
+        stamp = stamp;
+      }

@@ -1,6 +1,12 @@
-pub mod Ends
-pub mod Journeys
-pub mod SoFar
-pub mod Stations
+pub mod Places
 pub mod Turns
+pub mod Leads
+pub mod Renewals
+pub mod Orders
+pub mod Linked
+pub mod Closing
+pub mod Linking
+pub mod Crews
+pub mod Ended
+pub mod Seats
 pub mod Outcomes

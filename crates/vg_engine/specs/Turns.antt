@@ -1,5 +1,5 @@
 -- From one generation to the next.
-use Rattle.std.specs.Prelude.{◌≡◌, ℕ, ◌+◌, ◌-◌, List, ◌∷◌, length, drop, slice_get, Some, Ok}
+use Rattle.std.specs.Prelude.{◌≡◌, ℕ, ◌-◌, List, ◌∷◌, length, drop, slice_get, Some, Ok}
 use Rattle.vg_model.specs.Edit.{apply_all}
 use Rattle.vg_model.specs.Graph.{Graph}
 use Rattle.vg_script.specs.Events.{Event, events}
@@ -16,12 +16,10 @@ pub record MakesNext (left : List Event) (before : Graph) (rest : List Event) (a
 abbrev pub CanMakeNext : List Event → Graph → Type 0
 CanMakeNext left before = (rest : List Event) × (after : Graph) × MakesNext left before rest after
 
--- the graph is that of the generation before this one, whose event is the first of those left
-pub record IsBehind (plan : Planned) (generation : ℕ) (events_left : List Event) (g : Graph) : Type 0 where
-  pub past : ℕ
-  pub next : generation ≡ past + 1
-  pub left : events_left ≡ drop past (events plan.script)
-  pub graph : slice_get plan.graphs past ≡ Some g
+-- the graph is that of this generation, and the events behind it are left
+pub record IsAt (plan : Planned) (generation : ℕ) (events_left : List Event) (g : Graph) : Type 0 where
+  pub left : events_left ≡ drop generation (events plan.script)
+  pub graph : slice_get plan.graphs generation ≡ Some g
 
 -- the graph is that of the last generation, without its routes
 pub record IsLastGraph (graphs : List Graph) (g : Graph) : Type 0 where

@@ -1,15 +1,28 @@
-//! Runs of a capture through the generations of a script.
+//! Runs of a capture through the generations of a script, on several workers.
 //!
-//! [`run_one`] runs it on one worker: generation by generation, the worker draws the packets whose time has come, dispatches them
-//! through the graph, and then the edits of the next event are made.
+//! [`run_turns`] runs it on one thread. Main and the workers have turns: main asks the workers to park, decides what they do next while
+//! all are, and releases them with a parcel each; a worker draws its packets, takes those that others hand over to it, and dispatches
+//! them through the graph of its parcel. [`links_of`] makes the queues over which workers hand packets to each other.
 #![tactic(auto)]
 
+mod closing;
+mod crews;
+mod decisions;
+mod ends;
 mod events;
+mod forks;
+mod gather;
+mod leading;
+pub mod links;
+mod lists;
+mod mains;
+pub mod rests;
 pub mod runs;
-mod stations;
+mod seats;
 #[cfg(test)]
 mod tests;
-mod traces;
 
-pub use runs::{Input, Outcome, run_one};
-pub use vg_dispatch::Options;
+pub use links::links_of;
+pub use rests::Rests;
+pub use runs::{Outcome, run_turns};
+pub use vg_dispatch::{Input, Links, Options, WorkerLinks};

@@ -1,32 +1,42 @@
-//! A run on one worker.
-ghost use Rattle.std.specs.Prelude.{◌≡◌, ℕ, List, map, IfOk};
-ghost use Rattle.std.specs.Bool.{OnTrue};
-ghost use Rattle.std.specs.List.Sorted.{IsPermutation, IsNonDecreasing, IsNonDecreasingBy};
+//! A run.
+ghost use Rattle.std.specs.Prelude.{◌≡◌, ◌≤◌, [], IfOk, length};
 ghost use Rattle.vg_plan.specs.Plan.{first_generation};
+ghost use Rattle.vg_barrier.specs.Barrier.{IsSeatOf};
+ghost use Rattle.vg_barrier.specs.Seats.{main_view};
 ghost use Rattle.vg_dispatch.specs.Progress.{AreInRange};
+ghost use Rattle.vg_dispatch.specs.Standing.{barrier_id};
+ghost use Rattle.vg_engine.specs.Crews.{IsCrew, AreDone};
+ghost use Rattle.vg_engine.specs.Ended.{HaveKept};
+ghost use Rattle.vg_engine.specs.Leads.{IsLead};
+ghost use Rattle.vg_engine.specs.Linked.{AreLinked};
+ghost use Rattle.vg_engine.specs.Orders.{AreTurns};
 ghost use Rattle.vg_engine.specs.Outcomes.{IsOutcome};
 
-use crate::stations::Station;
-use crate::traces::of_one_worker;
+use crate::closing::close_all;
+use crate::crews::{finish, have_ended};
+use crate::decisions::Lead;
+use crate::ends::{Ends, end_all};
+use crate::gather::{Gathered, gather};
+use crate::leading::{follow, lead};
+use crate::lists::room_for;
+use crate::mains::Main;
+use crate::rests::Rests;
+use crate::seats::{Seats, seats_of, workers_of};
 use std::alloc::Global;
 use std::marker::Brand;
+use std::sync::Wait;
 use std::sync::ledger::{Blank, Ledger};
+use vg_barrier::{Barrier, MainSeat};
 use vg_capture::Capture;
 use vg_counters::{Counters, TraceLists};
-use vg_dispatch::{CoreEnd, Options, SentList};
+use vg_dispatch::{Input, Links, SentList, Worker, WorkerParcel};
 use vg_graph::Graph;
-use vg_model::{Fate, Fates, Memory};
+use vg_hands::{HandFrame, Handoff};
+use vg_model::{Fates, Memory};
 use vg_nodes::KindSet;
-use vg_plan::Plan;
-use vg_pool::PoolLedger;
-
-/// What is run: a capture through the generations of a plan.
-#[derive(Clone, Copy)]
-pub struct Input<'a> {
-    pub plan: &'a Plan,
-    pub capture: &'a Capture,
-    pub options: &'a Options,
-}
+use vg_outside::Gate;
+use vg_pool::{LockedPool, Pool, PoolLedger, Settled};
+use vg_ring::Rest;
 
 /// What came of a run.
 #[derive(Drop)]
@@ -42,115 +52,197 @@ pub struct Outcome {
     pub trace: TraceLists,
     /// How many buffers are in the pool at the end.
     pub buffers: u32,
+    /// What the settlement of the pool came to, which counted them.
+    pub settled: Settled,
     /// The graph of the last generation, without its routes.
     pub last: Graph,
+    /// The closed queues, one from each worker to each other: by the worker from which, and then by the worker to which they lead.
+    pub rests: Rests,
+    /// Main's seat at the barrier of the run.
+    pub seat: MainSeat<WorkerParcel>,
 }
 
-// Whether the fates stand in the order of their numbers.
-fn are_in_order(fates: &[Fate]) -> bool
-    ensures { OnTrue result (IsNonDecreasingBy (λ fate. fate.number) fates.now) }
+// A reader tells how many packets a capture may have.
+fn know_few(capture: &Capture)
+    ensures { length capture.now.packets ≤ 65536 }
 {
-    let mut least = 0;
-    for fate in fates {
-        if fate.number < least {
-            return false;
-        }
-        least = fate.number;
-    }
-    true
+    let _count = capture.packets.len();
 }
 
-// The fates in the order of their numbers, which they mostly have: then none is moved.
-fn by_number(fates: Fates) -> Fates
-    ensures same { IsPermutation fates result }
-    ensures rising { IsNonDecreasingBy (λ fate. fate.number) result }
-{
-    if are_in_order(fates.as_slice()) {
-        return fates;
-    }
-    let mut fates = fates.into_vec();
-    fates.sort_unstable_by_key(|fate| fate.number);
-    Fates::from_vec(fates)
+/// Room for what the end of a run puts together.
+#[derive(Drop)]
+pub(crate) struct Room<T: Ledger, L: Ledger> {
+    pub ends: Ends<T, L>,
+    pub rests: Vec<Rest<HandFrame>>,
 }
 
-// Whether the packets sent stand in the order of their numbers.
-fn are_sent_in_order(sent: &SentList) -> bool
-    ensures { OnTrue result (IsNonDecreasing (map (λ (packet : ℕ × List ℕ). packet.0) sent.now)) }
-{
-    let mut least = 0;
-    for k in 0..sent.len() {
-        let (number, _) = sent.get(k);
-        if number < least {
-            return false;
-        }
-        least = number;
-    }
-    true
-}
-
-// The packets sent in the order of their numbers, which they mostly have: then none is moved.
-fn sent_by_number(sent: SentList) -> SentList
-    ensures same { IsPermutation sent result }
-    ensures rising { IsNonDecreasing (map (λ (packet : ℕ × List ℕ). packet.0) result) }
-{
-    if are_sent_in_order(&sent) {
-        return sent;
-    }
-    let mut sent = sent;
-    sent.sort();
-    sent
-}
-
-// Runs a capture on one worker, whose buffers are counted in these two ledgers.
-fn run_counted<K: KindSet, T: PoolLedger, G: Ledger>(
-    alloc: Global,
-    input: &Input,
-    kinds: &K,
-    taken: Blank,
-    given: Blank,
-) -> Result<Outcome, Memory>
-    requires worker { input.now.options.now.workers ≡ 1 }
-    requires options { AreInRange input.now.options.now }
-    requires total { T.total ≡ input.now.options.now.buffers }
-    requires taken { (taken.name ≡ T.name) × (taken.parts ≡ T.parts) × (taken.parts ≡ 1) }
-    requires given { (given.name ≡ G.name) × (given.parts ≡ G.parts) × (given.parts ≡ 1) }
-    ensures { IfOk result (IsOutcome K.meaning input.now.plan.now.graphs
-        (first_generation input.now.plan.now.script input.now.capture.now) input.now.capture.now input.now.options.now) }
-{
-    let mut station = Station::<K, T, G>::new(alloc, input, kinds, taken, given)?;
-    let last = station.run(alloc, input)?;
-    let (kept, buffers) = station.end()?;
-    let CoreEnd {
-        log,
-        sent,
-        counts,
-        trace,
-    } = kept;
-    let sent = sent_by_number(sent);
-    let trace = of_one_worker(alloc, trace)?;
-    Ok(Outcome {
-        fates: by_number(log),
-        sent,
-        counts,
-        trace,
-        buffers,
-        last,
-    })
-}
-
-/// Runs a capture on one worker.
-///
-/// Each packet goes through the generation of its time, which is the number of the events up to it. Afterwards every buffer is
-/// back in the pool.
+/// Room for the end of a run on so many workers.
 ///
 /// # Errors
 ///
 /// [`Memory`] where memory runs out.
-pub fn run_one<K: KindSet>(alloc: Global, input: &Input, kinds: &K) -> Result<Outcome, Memory>
-    requires worker { input.now.options.now.workers ≡ 1 }
+pub(crate) fn room_of<T: Ledger, L: Ledger>(
+    alloc: Global,
+    workers: u8,
+) -> Result<Room<T, L>, Memory>
+    ensures ends { IfOk result (λ room. HaveKept [] room.ends) }
+    ensures rests { IfOk result (λ room. room.rests.items ≡ []) }
+{
+    let workers = workers as usize;
+    Ok(Room {
+        ends: Ends::with_room(alloc, workers)?,
+        rests: room_for(alloc, workers * workers)?,
+    })
+}
+
+/// What comes of a run whose workers have stopped and have nothing on its way.
+///
+/// # Errors
+///
+/// [`Memory`] where memory runs out, or ran out before the last generation was over.
+pub(crate) fn conclude<K: KindSet, H: Handoff<HandFrame>, T: PoolLedger, L: Ledger>(
+    alloc: Global,
+    input: &Input<'_>,
+    workers: Vec<Worker<K, H, T, L>>,
+    lead: &Lead,
+    seat: MainSeat<WorkerParcel>,
+    barrier: &Barrier<WorkerParcel>,
+    pool: LockedPool<T, L>,
+    room: Room<T, L>,
+) -> Result<Outcome, Memory>
     requires options { AreInRange input.now.options.now }
-    ensures { IfOk result (IsOutcome K.meaning input.now.plan.now.graphs
+    requires ends { HaveKept [] room.ends }
+    requires rests { room.rests.items ≡ [] }
+    requires total { T.total ≡ input.now.options.now.buffers }
+    requires parts { (T.parts ≡ input.now.options.now.workers) × (L.parts ≡ input.now.options.now.workers) }
+    requires crew { IsCrew K.meaning H.LOSSLESS input.now.plan.now input.now.capture.now input.now.options.now (barrier_id barrier.now) workers.items }
+    requires done { AreDone workers.items }
+    requires lead { IsLead input.now.plan.now input.now.capture.now (main_view seat.seat).released (main_view seat.seat).stamp lead.now }
+    ensures { IfOk result (IsOutcome K.meaning H.LOSSLESS input.now.plan.now.graphs
         (first_generation input.now.plan.now.script input.now.capture.now) input.now.capture.now input.now.options.now) }
 {
-    run_counted::<K, Brand, Brand>(alloc, input, kinds, Blank::new(1), Blank::new(1))
+    know_few(input.capture);
+    let Room { ends, rests } = room;
+    let ended = have_ended(&workers);
+    let Ends {
+        logs,
+        sent,
+        counters,
+        traces,
+        caches,
+        inputs,
+        outputs,
+    } = end_all(workers, ends)?;
+    let rests = close_all(outputs, inputs, rests)?;
+    if !lead.is_ended() || !ended {
+        return Err(Memory);
+    }
+    let Gathered {
+        fates,
+        sent,
+        counts,
+        trace,
+    } = gather(alloc, logs, sent, &counters, &traces)?;
+    let last = lead.master.graph().copy(alloc)?;
+    let pool = pool.close(caches);
+    let Some(settled) = pool.end() else {
+        unreachable!()
+    };
+    Ok(Outcome {
+        fates,
+        sent,
+        counts,
+        trace,
+        buffers: settled.len(),
+        settled,
+        last,
+        rests: Rests::from_vec(rests),
+        seat,
+    })
+}
+
+// Runs a capture, with these turns of main and the workers, and then by turns. Its buffers are counted in these two ledgers.
+fn run_counted<K: KindSet, H: Handoff<HandFrame>, T: PoolLedger, L: Ledger, R: Wait, G: Gate>(
+    rt: &R,
+    alloc: Global,
+    input: &Input<'_>,
+    kinds: &K,
+    links: Links<H>,
+    gate: &G,
+    turns: &[u8],
+    taken: Blank,
+    given: Blank,
+) -> Result<Outcome, Memory>
+    requires options { AreInRange input.now.options.now }
+    requires links { AreLinked H.accepted H.ring H.slots input.now.options.now.workers input.now.options.now.queue links.workers.items }
+    requires turns { AreTurns input.now.options.now.workers turns.now }
+    requires total { T.total ≡ input.now.options.now.buffers }
+    requires taken { (taken.name ≡ T.name) × (taken.parts ≡ T.parts) × (taken.parts ≡ input.now.options.now.workers) }
+    requires given { (given.name ≡ L.name) × (given.parts ≡ L.parts) × (given.parts ≡ input.now.options.now.workers) }
+    ensures { IfOk result (IsOutcome K.meaning H.LOSSLESS input.now.plan.now.graphs
+        (first_generation input.now.plan.now.script input.now.capture.now) input.now.capture.now input.now.options.now) }
+{
+    let count = input.options.workers as usize;
+    let (pool, caches) = Pool::<T, L>::new(alloc, input.options.buffers, count, taken, given)?;
+    let pool = LockedPool::new(pool);
+    let room = room_of(alloc, input.options.workers)?;
+    let Seats {
+        barrier,
+        main,
+        workers,
+    } = seats_of(alloc, input)?;
+    let mut workers = workers_of(alloc, input, kinds, links, caches, workers, &barrier)?;
+    let main = follow(
+        rt,
+        alloc,
+        turns,
+        main,
+        &mut workers,
+        input,
+        &barrier,
+        &pool,
+        gate,
+    );
+    let main = lead(rt, alloc, main, &mut workers, input, &barrier, &pool, gate);
+    finish(rt, &mut workers, input, &barrier, &pool);
+    let (seat, lead) = main.rest(rt, alloc, input, &barrier);
+    conclude(alloc, input, workers, &lead, seat, &barrier, pool, room)
+}
+
+/// Runs a capture on several workers, on this thread.
+///
+/// Each byte of `turns` is a turn: `m` a step of main, a digit a turn of the worker with this number, and white space is nothing.
+/// When they are used up, main and the workers by rising number have turns until each worker has stopped. So the turns decide which
+/// of the lawful choices the run makes.
+///
+/// # Errors
+///
+/// [`Memory`] where memory runs out.
+pub fn run_turns<K: KindSet, H: Handoff<HandFrame>, R: Wait, G: Gate>(
+    rt: &R,
+    alloc: Global,
+    input: &Input<'_>,
+    kinds: &K,
+    links: Links<H>,
+    gate: &G,
+    turns: &[u8],
+) -> Result<Outcome, Memory>
+    requires options { AreInRange input.now.options.now }
+    requires links { AreLinked H.accepted H.ring H.slots input.now.options.now.workers input.now.options.now.queue links.workers.items }
+    requires turns { AreTurns input.now.options.now.workers turns.now }
+    ensures { IfOk result (IsOutcome K.meaning H.LOSSLESS input.now.plan.now.graphs
+        (first_generation input.now.plan.now.script input.now.capture.now) input.now.capture.now input.now.options.now) }
+{
+    let parts = u64::from(input.options.workers);
+    run_counted::<K, H, Brand, Brand, R, G>(
+        rt,
+        alloc,
+        input,
+        kinds,
+        links,
+        gate,
+        turns,
+        Blank::new(parts),
+        Blank::new(parts),
+    )
 }

@@ -1,14 +1,17 @@
 //! Generated packets, in frames and one by one.
 ghost use Rattle.std.specs.Prelude.{IfOk, ◌≡◌, ◌≤◌, length};
+ghost use Rattle.vg_engine.specs.Orders.{AreTurns};
 ghost use Rattle.vg_engine.specs.Outcomes.{AreWholeCounts};
 
 use std::alloc::{AllocError, Global};
 use std::process::Abort;
+use std::sync::Wait;
 use std::test::Fail;
 use vg_capture::{Capture, Captured, Packets};
-use vg_engine::{Input, Options, Outcome, run_one};
-use vg_model::{Bytes, DropError, Memory};
+use vg_engine::{Input, Options, Outcome, links_of, run_turns};
+use vg_model::{Bytes, DropError, Fate, Memory};
 use vg_nodes::Ip4Kinds;
+use vg_outside::OpenGate;
 use vg_plan::{Master, Plan};
 use vg_script::parse_script;
 use vg_walk::{Log, walk_all};
@@ -41,13 +44,8 @@ const NODES: u16 = 13;
 
 const INTERFACES: u16 = 3;
 
-const OPTIONS: Options = Options {
-    workers: 1,
-    buffers: 4096,
-    queue: 64,
-    burst: 256,
-    trace: 0,
-};
+/// The number of the node at which packets arrive that other workers hand over.
+const HANDOFF_DEQUEUE: u16 = 1;
 
 /// The next of the numbers that packets are made from.
 fn next(state: u64) -> u64 {
@@ -129,23 +127,67 @@ fn walked(alloc: Global, plan: &Plan, packets: &[Captured]) -> Result<Log, Memor
     walk_all(alloc, master.graph(), master.fib(), packets)
 }
 
-/// What becomes of them in frames.
-fn forwarded(alloc: Global, plan: &Plan, capture: &Capture) -> Result<Outcome, Memory>
+/// What becomes of them in frames, on so many workers, with these turns first.
+fn forwarded<R: Wait>(
+    rt: &R,
+    alloc: Global,
+    plan: &Plan,
+    capture: &Capture,
+    workers: u8,
+    burst: u32,
+    turns: &[u8],
+) -> Result<Outcome, Memory>
+    requires workers { (1 ≤ workers) × (workers ≤ 8) }
+    requires burst { (1 ≤ burst) × (burst ≤ 256) }
+    requires turns { AreTurns workers turns.now }
     ensures { IfOk result (λ outcome. AreWholeCounts outcome.counts) }
 {
-    run_one(
+    let options = Options {
+        workers,
+        buffers: 4096,
+        queue: 256,
+        burst,
+        trace: 0,
+    };
+    let links = links_of(alloc, workers, 256)?;
+    run_turns(
+        rt,
         alloc,
         &Input {
             plan,
             capture,
-            options: &OPTIONS,
+            options: &options,
         },
         &Ip4Kinds,
+        links,
+        &OpenGate,
+        turns,
     )
 }
 
-/// Whether both have the same fates, and the same packets sent.
-fn have_same_packets(log: &Log, outcome: &Outcome) -> bool {
+/// Whether a packet's legs are those of one of so many workers after the other, the first by the packet's number, all under
+/// generation 0.
+fn are_legs(fate: &Fate, workers: u8) -> bool
+    requires { 1 ≤ workers }
+{
+    let legs = fate.legs.as_slice();
+    let mut last = None;
+    for leg in legs {
+        if leg.worker >= workers || leg.generation != 0 || last == Some(leg.worker) {
+            return false;
+        }
+        last = Some(leg.worker);
+    }
+    match legs.first() {
+        Some(leg) => u32::from(leg.worker) == fate.number % u32::from(workers),
+        None => false,
+    }
+}
+
+/// Whether both have the same fates, and the same packets sent; of the workers, which are so many, a packet may have had several.
+fn have_same_packets(log: &Log, outcome: &Outcome, workers: u8) -> bool
+    requires { 1 ≤ workers }
+{
     let fates = log.fates.as_slice();
     let others = outcome.fates.as_slice();
     if fates.len() != others.len() || log.sent.len() != outcome.sent.len() {
@@ -155,7 +197,7 @@ fn have_same_packets(log: &Log, outcome: &Outcome) -> bool {
         if fate.number != other.number
             || fate.end != other.end
             || fate.congested != other.congested
-            || fate.legs.as_slice() != other.legs.as_slice()
+            || !are_legs(other, workers)
         {
             return false;
         }
@@ -169,7 +211,17 @@ fn have_same_packets(log: &Log, outcome: &Outcome) -> bool {
     true
 }
 
-/// Whether both have the same counts.
+/// How often packets were handed over.
+fn handed(outcome: &Outcome) -> u64 {
+    let mut count: u64 = 0;
+    for fate in outcome.fates.as_slice() {
+        count = count.saturating_add(fate.legs.as_slice().len() as u64);
+        count = count.saturating_sub(1);
+    }
+    count
+}
+
+/// Whether both have the same counts; each packet handed over was dequeued once more.
 fn have_same_counts(log: &Log, outcome: &Outcome) -> bool
     requires { AreWholeCounts outcome.now.counts }
 {
@@ -180,7 +232,12 @@ fn have_same_counts(log: &Log, outcome: &Outcome) -> bool
         return false;
     }
     for node in 0..NODES {
-        if log.counts.visits[node as usize] != outcome.counts.visits(node) {
+        let visits = if node == HANDOFF_DEQUEUE {
+            handed(outcome)
+        } else {
+            log.counts.visits[node as usize]
+        };
+        if visits != outcome.counts.visits(node) {
             return false;
         }
         for error in DropError::ALL.iter() {
@@ -208,25 +265,32 @@ fn was_made(log: &Log, error: DropError) -> bool {
     false
 }
 
+/// So many generated packets, as a capture.
+fn capture_of(alloc: Global, packets: &[Captured]) -> Result<Capture, AllocError>
+    requires { length packets.now ≤ 65536 }
+{
+    Ok(Capture {
+        nanos: false,
+        snaplen: 262_144,
+        packets: Packets::of(alloc, packets)?,
+    })
+}
+
 #[test]
 fn frames_are_like_single_packets(rt: HostRuntime) -> Result<(), Fail> {
     let alloc = rt.alloc();
     let packets = generated(alloc, 2000)?;
     assert!(rt; packets.len() == 2000);
-    let capture = Capture {
-        nanos: false,
-        snaplen: 262_144,
-        packets: Packets::of(alloc, packets.as_slice())?,
-    };
+    let capture = capture_of(alloc, packets.as_slice())?;
     let plan = Plan::new(alloc, parse_script(alloc, SCRIPT)?)?;
     let Ok(log) = walked(alloc, &plan, packets.as_slice()) else {
         panic!(rt; "no memory")
     };
-    let Ok(outcome) = forwarded(alloc, &plan, &capture) else {
+    let Ok(outcome) = forwarded(&rt, alloc, &plan, &capture, 1, 256, b"") else {
         panic!(rt; "no memory")
     };
     assert_eq!(rt; outcome.buffers, 4096);
-    assert!(rt; have_same_packets(&log, &outcome));
+    assert!(rt; have_same_packets(&log, &outcome, 1));
     assert!(rt; have_same_counts(&log, &outcome));
 
     // The trial has packets of many kinds.
@@ -239,4 +303,41 @@ fn frames_are_like_single_packets(rt: HostRuntime) -> Result<(), Fail> {
     }
     assert!(rt; errors >= 10);
     Ok(())
+}
+
+/// What becomes of 2,000 packets on so many workers, with these turns first, is what becomes of them one by one.
+fn assert_alike<R: Abort + Wait + AllocGlobal>(
+    rt: &R,
+    workers: u8,
+    burst: u32,
+    turns: &[u8],
+) -> Result<(), Fail>
+    requires workers { (1 ≤ workers) × (workers ≤ 8) }
+    requires burst { (1 ≤ burst) × (burst ≤ 256) }
+    requires turns { AreTurns workers turns.now }
+{
+    let alloc = rt.alloc();
+    let packets = generated(alloc, 2000)?;
+    assert!(rt; packets.len() == 2000);
+    let capture = capture_of(alloc, packets.as_slice())?;
+    let plan = Plan::new(alloc, parse_script(alloc, SCRIPT)?)?;
+    let Ok(log) = walked(alloc, &plan, packets.as_slice()) else {
+        panic!(rt; "no memory")
+    };
+    let Ok(outcome) = forwarded(rt, alloc, &plan, &capture, workers, burst, turns) else {
+        panic!(rt; "no memory")
+    };
+    assert_eq!(rt; outcome.buffers, 4096);
+    assert!(rt; have_same_packets(&log, &outcome, workers));
+    assert!(rt; have_same_counts(&log, &outcome));
+    assert!(rt; handed(&outcome) > 1000);
+    Ok(())
+}
+
+#[test]
+fn several_workers_send_what_one_sends(rt: HostRuntime) -> Result<(), Fail> {
+    assert_alike(&rt, 2, 256, b"")?;
+    assert_alike(&rt, 2, 32, b"00001111m01")?;
+    assert_alike(&rt, 3, 64, b"2221")?;
+    assert_alike(&rt, 8, 256, b"")
 }

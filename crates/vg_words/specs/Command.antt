@@ -190,9 +190,9 @@ command (word ∷ words) =
     else if bytes_eq word (codes "load") then load_of words
     else None
 
--- what is built so far: runs by one worker, whose turns no file says
+-- what is built so far: runs
 abbrev pub is_built : Command → Bool
-is_built (Runs run) = run.workers == 1 && not (is_some run.turns)
+is_built (Runs run) = true
 is_built (Loads seed packets workers) = false
 
 -- a command, where it is built

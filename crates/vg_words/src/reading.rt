@@ -138,12 +138,12 @@ pub fn read_command<'a>(alloc: Global, words: &'a [&'a str]) -> Result<Option<Co
     Ok(None)
 }
 
-/// Whether what is asked for is built: a run by one worker, whose turns no file says.
+/// Whether what is asked for is built: a run.
 fn is_built(command: &Command<'_>) -> bool
     ensures { result ≡ is_built_command (shown command.now) }
 {
     match command {
-        Command::Run(run) => run.workers == 1 && run.turns.is_none(),
+        Command::Run(_) => true,
         Command::Load { .. } => false,
     }
 }
@@ -151,8 +151,7 @@ fn is_built(command: &Command<'_>) -> bool
 /// What the words after the program's name ask for, as far as it is built.
 ///
 /// `run` has three names, of a capture, a script and the savefile to be written, and options between them in any order;
-/// `load` has three numbers. None for all other words, and also, so far, for `load`, for more than one worker and for a
-/// turns file. The only error is want of memory.
+/// `load` has three numbers. None for all other words, and also, so far, for `load`. The only error is want of memory.
 pub fn read_words<'a>(alloc: Global, words: &'a [&'a str]) -> Result<Option<Command<'a>>, Memory>
     ensures { IfOk result (λ answer. option_map shown answer ≡ built (command (texts words.entry.now))) }
 {

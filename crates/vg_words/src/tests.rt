@@ -76,14 +76,16 @@ fn a_load_has_three_numbers(rt: HostRuntime) -> Result<(), Fail> {
 
 #[test]
 fn what_is_built_is_read(rt: HostRuntime) -> Result<(), Fail> {
-    let words = ["run", "--workers", "1", "--buffers=512", "c", "s", "t"];
-    assert!(rt; read_words(rt.alloc(), &words)?.is_some());
-    let others: [&[&str]; 4] = [
-        &["run", "--workers", "2", "c", "s", "t"],
+    let built: [&[&str]; 4] = [
+        &["run", "--workers", "1", "--buffers=512", "c", "s", "t"],
+        &["run", "--workers=2", "--buffers", "768", "c", "s", "t"],
+        &["run", "--workers", "8", "c", "s", "t"],
         &["run", "--turns", "u", "c", "s", "t"],
-        &["load", "0", "1", "1"],
-        &["run", "c", "s"],
     ];
+    for words in built {
+        assert!(rt; read_words(rt.alloc(), words)?.is_some());
+    }
+    let others: [&[&str]; 2] = [&["load", "0", "1", "1"], &["run", "c", "s"]];
     for words in others {
         assert!(rt; read_words(rt.alloc(), words)?.is_none());
     }

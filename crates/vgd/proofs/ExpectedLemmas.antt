@@ -1,126 +1,151 @@
 -- What is due is what is to be expected.
-use Rattle.std.proofs.Common.{◌≡◌, ℕ, ◌≤◌, ◌⊎◌, List, refl, sym, ap, subst, ◌∙◌, inl, inr, arith}
-use Rattle.std.specs.Prelude.{Option, Some, None, Result, Ok, Err, IfSome, IsSomeAnd}
+use Rattle.std.proofs.Common.{◌≡◌, ℕ, ◌≤◌, List, refl, sym, ap, subst, ◌∙◌, inl, inr, arith}
+use Rattle.std.specs.Prelude.{Option, Some, None, Result, Ok, Err, IfSome, IsSome, IsSomeAnd}
+use Rattle.std.proofs.lemmas.Bool.{false≢true}
 use Rattle.std.proofs.lemmas.Option.{none-some, same_Some}
 use Rattle.vg_model.specs.Graph.{Graph}
-use Rattle.vg_outside.specs.Files.{Files, file, Rose, FailedLoad}
+use Rattle.vg_outside.specs.Files.{Files, file, Rose, FailedLoad, HoldsBytes}
 use Rattle.vg_capture.specs.declared.captures.Capture.{Capture}
 use Rattle.vg_capture.specs.Savefile.{capture_of}
+use Rattle.vg_script.specs.declared.scripts.Script.{Script}
+use Rattle.vg_turns.specs.Turns.{turns as turns_in}
+use Rattle.vg_words.specs.Command.{Run}
 use Rattle.vgd.specs.declared.refusals.Refusal.{Refusal}
 use Rattle.vgd.specs.declared.refusals.Refusal.TheVariants as refusals
-use Rattle.vg_words.specs.Command.{Run}
+use Rattle.vgd.specs.declared.run.Due.{Due}
 use Rattle.vgd.specs.Command.{run_asked}
-use Rattle.vg_script.specs.declared.errors.ScriptError.{ScriptError}
 use Rattle.vgd.specs.Plan.{graphs_of}
-use Rattle.vg_script.specs.declared.scripts.Script.{Script}
+use Rattle.vgd.specs.Files.{FileBytes, OfTurns, IsLoadedNext}
+use Rattle.vgd.specs.Run.{Call, AreLoaded, AreAccepted, IsDone, IsEndOf, IsRefused, IsDue, status_of, line_of}
+use Rattle.vgd.specs.Dues.{IsDueOf}
+use Rattle.vgd.specs.Expected.{IsLoadable, IsExpected, HasNoFault, by_result, status_by}
 use Rattle.vgd.proofs.ScriptLemmas.{graphs_by_script, graphs_made}
-use Rattle.vgd.specs.Expected.{IsLoadable, IsExpectedOf, IsExpected, HasNoFault}
-use Rattle.vgd.specs.Run.{Call, AreLoaded, AreAccepted, IsLoadedNext, IsDone, IsRefused, IsDue, status_of, line_of}
 
--- a capture isn't accepted and refused
-ok-err : {X E : Type 0} (x : X) (e : E) → ◌≡◌ {A = Result X E} (Ok x) (Err e) → ⊥
-ok-err x e h = cc
+-- ---- files that the folder tells
 
--- the whole file that was loaded is the one that the folder tells
-same_file : (files : Option Files) (told : Files) (name bytes bytes' : List ℕ) → files ≡ Some told → file told name ≡ Some bytes
-    → IfSome files (λ fs. file fs name ≡ Some bytes') → bytes' ≡ bytes
-same_file files told name bytes bytes' e here there =
-    same_Some _ _ (sym (subst (λ o. IfSome o (λ fs. file fs name ≡ Some bytes')) e there) ∙ here)
+-- a file that the folder tells has one content
+same_file : (files : Option Files) (name bytes others : List ℕ) → IsSome files → HoldsBytes files name bytes → HoldsBytes files name others → others ≡ bytes
+same_file None name bytes others told here there = absurd (false≢true told)
+same_file (Some files) name bytes others told here there = same_Some _ _ (sym there ∙ here)
 
--- a file that is there isn't absent
-not_absent : (files : Option Files) (told : Files) (name bytes : List ℕ) → files ≡ Some told → file told name ≡ Some bytes
-    → IsSomeAnd files (λ fs. file fs name ≡ None) → ⊥
-not_absent files told name bytes e here absent =
-    none-some bytes (sym (subst (λ o. IsSomeAnd o (λ fs. file fs name ≡ None)) e absent) ∙ here)
+same_turns : (files : Option Files) (name : Option (List ℕ)) (bytes others : List ℕ) → IsSome files → OfTurns (HoldsBytes files) name bytes → OfTurns (HoldsBytes files) name others
+    → others ≡ bytes
+same_turns files None bytes others told here there = there ∙ sym here
+same_turns files (Some name) bytes others told here there = same_file files name bytes others told here there
 
-no_load : (call : Call) (told : Files) (name bytes : List ℕ) → call.files ≡ Some told → file told name ≡ Some bytes → HasNoFault call name
+-- a file that is there isn't absent, so a load of it fails only where a fault was counted
+not_absent : (files : Option Files) (name bytes : List ℕ) → IsSome files → HoldsBytes files name bytes → IsSomeAnd files (λ fs. file fs name ≡ None) → ⊥
+not_absent None name bytes told here absent = absurd absent
+not_absent (Some files) name bytes told here absent = none-some bytes (sym absent ∙ here)
+
+no_load : (call : Call) (name bytes : List ℕ) → IsSome call.files → HoldsBytes call.files name bytes → HasNoFault call name
     → FailedLoad call.files name (call.faults name) (call.faults_after name) → ⊥
-no_load call told name bytes e here none (inl rose) = none rose
-no_load call told name bytes e here none (inr absent) = not_absent call.files told name bytes e here absent
+no_load call name bytes told here none (inl rose) = none rose
+no_load call name bytes told here none (inr absent) = not_absent call.files name bytes told here absent
+
+no_turns_load : (call : Call) (turns : Option (List ℕ)) (name bytes : List ℕ) → IsSome call.files → OfTurns (HoldsBytes call.files) turns bytes → IfSome turns (HasNoFault call)
+    → turns ≡ Some name → FailedLoad call.files name (call.faults name) (call.faults_after name) → ⊥
+no_turns_load call None name bytes told here none e h = none-some name e
+no_turns_load call (Some other) name bytes told here none e h =
+    no_load call other bytes told here none (subst (λ n. FailedLoad call.files n (call.faults n) (call.faults_after n)) (sym (same_Some _ _ e)) h)
 
 -- a load doesn't fail of files that can be loaded
-loads : (call : Call) (run : Run) (capture_bytes script_bytes name : List ℕ) → IsLoadable call run capture_bytes script_bytes
-    → IsLoadedNext call.files run.capture run.script name → FailedLoad call.files name (call.faults name) (call.faults_after name) → ⊥
-loads call run capture_bytes script_bytes name l (inl e) h =
-    no_load call l.files run.capture capture_bytes l.told l.capture_file l.no_capture_fault (subst (λ n. FailedLoad call.files n (call.faults n) (call.faults_after n)) e h)
-loads call run capture_bytes script_bytes name l (inr e) h =
-    no_load call l.files run.script script_bytes l.told l.script_file l.no_script_fault (subst (λ n. FailedLoad call.files n (call.faults n) (call.faults_after n)) e.0 h)
+loads : (call : Call) (run : Run) (bytes : FileBytes) (name : List ℕ) → IsLoadable call run bytes
+    → IsLoadedNext call.files run name → FailedLoad call.files name (call.faults name) (call.faults_after name) → ⊥
+loads call run bytes name l (inl e) h =
+    no_load call run.capture bytes.capture l.told l.loaded.files.capture l.no_capture_fault (subst (λ n. FailedLoad call.files n (call.faults n) (call.faults_after n)) e h)
+loads call run bytes name l (inr (inl e)) h =
+    no_load call run.script bytes.script l.told l.loaded.files.script l.no_script_fault (subst (λ n. FailedLoad call.files n (call.faults n) (call.faults_after n)) e.0 h)
+loads call run bytes name l (inr (inr e)) h = no_turns_load call run.turns name bytes.turns l.told l.loaded.files.turns l.no_turns_fault e.0 h
 
--- the run of the words is one
-one_run : (call : Call) (run run' : Run) → run_asked call.words ≡ Some run → run_asked call.words ≡ Some run' → run' ≡ run
-one_run call run run' e f = same_Some _ _ (sym f ∙ e)
+-- the run of the words is one, and so are the bytes of its files
+same_run : (call : Call) (run other : Run) → run_asked call.words ≡ Some run → run_asked call.words ≡ Some other → other ≡ run
+same_run call run other e f = same_Some _ _ (sym f ∙ e)
 
 -- what was loaded is what can be loaded
-same_capture_bytes : (call : Call) (run run' : Run) (capture_bytes script_bytes capture_bytes' script_bytes' : List ℕ) → IsLoadable call run capture_bytes script_bytes
-    → AreLoaded call run' capture_bytes' script_bytes' → capture_bytes' ≡ capture_bytes
-same_capture_bytes call run run' capture_bytes script_bytes capture_bytes' script_bytes' l a =
-    let same : run' ≡ run = one_run call run run' l.is_command a.is_command in
-    same_file call.files l.files run.capture capture_bytes capture_bytes' l.told l.capture_file (subst (λ (r : Run). IfSome call.files (λ fs. file fs r.capture ≡ Some capture_bytes')) same a.capture_file)
+record IsSame (run other : Run) (bytes others : FileBytes) : Type 0 where
+  run_is : other ≡ run
+  capture : others.capture ≡ bytes.capture
+  script : others.script ≡ bytes.script
+  turns : others.turns ≡ bytes.turns
 
-same_script_bytes : (call : Call) (run run' : Run) (capture_bytes script_bytes capture_bytes' script_bytes' : List ℕ) → IsLoadable call run capture_bytes script_bytes
-    → AreLoaded call run' capture_bytes' script_bytes' → script_bytes' ≡ script_bytes
-same_script_bytes call run run' capture_bytes script_bytes capture_bytes' script_bytes' l a =
-    let same : run' ≡ run = one_run call run run' l.is_command a.is_command in
-    same_file call.files l.files run.script script_bytes script_bytes' l.told l.script_file (subst (λ (r : Run). IfSome call.files (λ fs. file fs r.script ≡ Some script_bytes')) same a.script_file)
+same_loaded : (call : Call) (run other : Run) (bytes others : FileBytes) → IsLoadable call run bytes → AreLoaded call other others → IsSame run other bytes others
+same_loaded call run other bytes others l a =
+    let same : other ≡ run = same_run call run other l.loaded.is_command a.is_command in
+    let moved : AreLoaded call run others = subst (λ (r : Run). AreLoaded call r others) same a in
+    record {
+      run_is = same;
+      capture = same_file call.files run.capture bytes.capture others.capture l.told l.loaded.files.capture moved.files.capture;
+      script = same_file call.files run.script bytes.script others.script l.told l.loaded.files.script moved.files.script;
+      turns = same_turns call.files run.turns bytes.turns others.turns l.told l.loaded.files.turns moved.files.turns;
+    }
+
+-- ---- what they bring
+
+at_ok : {X E : Type 0} (r : Result X E) (x : X) (m n : ℕ) → r ≡ Ok x → by_result r m n ≡ n
+at_ok r x m n e = ap (λ r. by_result r m n) e
+
+at_error : {X E : Type 0} (r : Result X E) (x : E) (m n : ℕ) → r ≡ Err x → by_result r m n ≡ m
+at_error r x m n e = ap (λ r. by_result r m n) e
 
 -- what was accepted made these graphs
-accepted_graphs : (call : Call) (run : Run) (capture : Capture) (script : Script) (graphs : List Graph) (a : AreAccepted call run capture script graphs) → graphs_of a.script_bytes ≡ Ok graphs
-accepted_graphs call run capture script graphs a = graphs_by_script a.script_bytes script a.is_script ∙ graphs_made script graphs a.are_graphs
+accepted_graphs : (call : Call) (run : Run) (capture : Capture) (script : Script) (graphs : List Graph) (a : AreAccepted call run capture script graphs) → graphs_of a.bytes.script ≡ Ok graphs
+accepted_graphs call run capture script graphs a = graphs_by_script a.bytes.script script a.is_script ∙ graphs_made script graphs a.are_graphs
 
--- what was accepted isn't refused
-accepts : (call : Call) (run run' : Run) (capture_bytes script_bytes : List ℕ) (capture : Capture) (script : Script) (graphs : List Graph) (status : ℕ)
-    → IsLoadable call run capture_bytes script_bytes → AreAccepted call run' capture script graphs → IsExpectedOf call run capture_bytes script_bytes status
-    → (status ≡ 0) × HasNoFault call run.tx
-accepts call run run' capture_bytes script_bytes capture script graphs status l a (inl e) =
-    absurd (ok-err capture e.1.0 (sym a.is_capture ∙ ap capture_of (same_capture_bytes call run run' capture_bytes script_bytes a.capture_bytes a.script_bytes l a.loaded) ∙ e.1.1))
-accepts call run run' capture_bytes script_bytes capture script graphs status l a (inr e) = by_script e.1
-  where
-    by_script : ((status ≡ 5) × ((error : ScriptError) × (graphs_of script_bytes ≡ Err error))) ⊎ ((status ≡ 0) × ((graphs : List Graph) × (graphs_of script_bytes ≡ Ok graphs)) × HasNoFault call run.tx)
-        → (status ≡ 0) × HasNoFault call run.tx
-    by_script (inl f) =
-        absurd (ok-err graphs f.1.0 (sym (accepted_graphs call run' capture script graphs a)
-        ∙ ap graphs_of (same_script_bytes call run run' capture_bytes script_bytes a.capture_bytes a.script_bytes l a.loaded) ∙ f.1.1))
-    by_script (inr f) = (f.0, f.2)
+module _ (call : Call) (run : Run) (bytes : FileBytes) (l : IsLoadable call run bytes) where
+  -- what is accepted brings 0
+  brings_none : (other : Run) (capture : Capture) (script : Script) (graphs : List Graph) → AreAccepted call other capture script graphs → status_by run bytes ≡ 0
+  brings_none other capture script graphs a =
+      let same = same_loaded call run other bytes a.bytes l a.loaded in
+      let is_capture : capture_of bytes.capture ≡ Ok capture = ap capture_of (sym same.capture) ∙ a.is_capture in
+      let are_graphs : graphs_of bytes.script ≡ Ok graphs = ap graphs_of (sym same.script) ∙ accepted_graphs call other capture script graphs a in
+      let are_turns : turns_in run.workers bytes.turns ≡ Ok a.steps =
+      ap (λ (r : Run). turns_in r.workers bytes.turns) (sym same.run_is) ∙ ap (turns_in other.workers) (sym same.turns) ∙ a.are_turns in
+      at_ok (capture_of bytes.capture) capture 4 _ is_capture ∙ at_ok (graphs_of bytes.script) graphs 5 _ are_graphs ∙ at_ok (turns_in run.workers bytes.turns) a.steps 8 0 are_turns
 
--- where files can be loaded, a refusal has the status to be expected
-refused_expected : (call : Call) (run : Run) (capture_bytes script_bytes : List ℕ) (status : ℕ) (refusal : Refusal) → IsLoadable call run capture_bytes script_bytes
-    → IsExpectedOf call run capture_bytes script_bytes status → IsRefused call refusal → status_of refusal ≡ status
-refused_expected call run capture_bytes script_bytes status refusals.Usage l e r = absurd (none-some run (sym r.0 ∙ l.is_command))
-refused_expected call run capture_bytes script_bytes status (refusals.Load name) l e r =
-    let same : r.0.run ≡ run = one_run call run r.0.run l.is_command r.0.is_command in
-    absurd (loads call run capture_bytes script_bytes name.now l (subst (λ (q : Run). IsLoadedNext call.files q.capture q.script name.now) same r.0.named) r.0.fault)
-refused_expected call run capture_bytes script_bytes status (refusals.Capture fault) l (inl e) r = sym e.0
-refused_expected call run capture_bytes script_bytes status (refusals.Capture fault) l (inr e) r =
-    absurd (ok-err e.0.0 fault (sym e.0.1 ∙ sym (ap capture_of (same_capture_bytes call run r.0.run capture_bytes script_bytes r.0.capture_bytes r.0.script_bytes l r.0.loaded)) ∙ r.0.is_fault))
-refused_expected call run capture_bytes script_bytes status (refusals.Script error) l (inl e) r =
-    absurd (ok-err r.0.capture e.1.0 (sym r.0.is_capture ∙ ap capture_of (same_capture_bytes call run r.0.run capture_bytes script_bytes r.0.capture_bytes r.0.script_bytes l r.0.loaded) ∙ e.1.1))
-refused_expected call run capture_bytes script_bytes status (refusals.Script error) l (inr e) r = by_script e.1
-  where
-    by_script : ((status ≡ 5) × ((error : ScriptError) × (graphs_of script_bytes ≡ Err error))) ⊎ ((status ≡ 0) × ((graphs : List Graph) × (graphs_of script_bytes ≡ Ok graphs)) × HasNoFault call run.tx)
-        → 5 ≡ status
-    by_script (inl f) = sym f.0
-    by_script (inr f) =
-        absurd (ok-err f.1.0 error (sym f.1.1 ∙ sym (ap graphs_of (same_script_bytes call run r.0.run capture_bytes script_bytes r.0.capture_bytes r.0.script_bytes l r.0.loaded)) ∙ r.0.is_fault))
-refused_expected call run capture_bytes script_bytes status (refusals.Save name) l e r =
-    let same : r.run ≡ run = one_run call run r.run l.is_command r.accepted.loaded.is_command in
-    let none : HasNoFault call run.tx = (accepts call run r.run capture_bytes script_bytes r.capture r.script r.graphs status l r.accepted e).1 in
-    absurd (none (subst (λ (n : List ℕ). Rose (call.faults n) (call.faults_after n)) (r.named ∙ ap (λ (q : Run). q.tx) same) r.fault))
+  -- where files can be loaded, a refusal has the status to be expected
+  refused_expected : (status : ℕ) (refusal : Refusal) → status ≡ status_by run bytes → (status ≡ 0 → HasNoFault call run.tx) → IsRefused call refusal → status_of refusal ≡ status
+  refused_expected status refusals.Usage e none r = absurd (none-some run (sym r.0 ∙ l.loaded.is_command))
+  refused_expected status (refusals.Load name) e none r =
+      let same : r.0.run ≡ run = same_run call run r.0.run l.loaded.is_command r.0.is_command in
+      absurd (loads call run bytes name.now l (subst (λ (q : Run). IsLoadedNext call.files q name.now) same r.0.named) r.0.fault)
+  refused_expected status (refusals.Capture fault) e none r =
+      let same = same_loaded call run r.0.run bytes r.0.bytes l r.0.loaded in
+      sym (e ∙ at_error (capture_of bytes.capture) fault 4 _ (ap capture_of (sym same.capture) ∙ r.0.is_fault))
+  refused_expected status (refusals.Script error) e none r =
+      let same = same_loaded call run r.0.run bytes r.0.bytes l r.0.loaded in
+      sym (e ∙ at_ok (capture_of bytes.capture) r.0.capture 4 _ (ap capture_of (sym same.capture) ∙ r.0.is_capture)
+      ∙ at_error (graphs_of bytes.script) error 5 _ (ap graphs_of (sym same.script) ∙ r.0.is_fault))
+  refused_expected status (refusals.Turns place) e none r =
+      let same = same_loaded call run r.0.run bytes r.0.bytes l r.0.loaded in
+      let is_fault : turns_in run.workers bytes.turns ≡ Err place =
+      ap (λ (q : Run). turns_in q.workers bytes.turns) (sym same.run_is) ∙ ap (turns_in r.0.run.workers) (sym same.turns) ∙ r.0.is_fault in
+      sym (e ∙ at_ok (capture_of bytes.capture) r.0.capture 4 _ (ap capture_of (sym same.capture) ∙ r.0.is_capture)
+      ∙ at_ok (graphs_of bytes.script) r.0.graphs 5 _ (ap graphs_of (sym same.script) ∙ r.0.are_graphs)
+      ∙ at_error (turns_in run.workers bytes.turns) place 8 0 is_fault)
+  refused_expected status (refusals.Save name) e none r =
+      let same : r.run ≡ run = same_run call run r.run l.loaded.is_command r.accepted.loaded.is_command in
+      let zero : status ≡ 0 = e ∙ brings_none r.run r.capture r.script r.graphs r.accepted in
+      absurd (none zero (subst (λ (n : List ℕ). Rose (call.faults n) (call.faults_after n)) (r.named ∙ ap (λ (q : Run). q.tx) same) r.fault))
+
+-- a run is due only where the words ask for one
+refused_usage : (call : Call) (refusal : Refusal) → run_asked call.words ≡ None → IsRefused call refusal → 2 ≡ status_of refusal
+refused_usage call refusals.Usage none r = refl
+refused_usage call (refusals.Load name) none r = absurd (none-some r.0.run (sym none ∙ r.0.is_command))
+refused_usage call (refusals.Capture fault) none r = absurd (none-some r.0.run (sym none ∙ r.0.loaded.is_command))
+refused_usage call (refusals.Script error) none r = absurd (none-some r.0.run (sym none ∙ r.0.loaded.is_command))
+refused_usage call (refusals.Turns place) none r = absurd (none-some r.0.run (sym none ∙ r.0.loaded.is_command))
+refused_usage call (refusals.Save name) none r = absurd (none-some r.run (sym none ∙ r.accepted.loaded.is_command))
 
 -- what is due is what is to be expected
-pub due_expected : (call : Call) (status expected : ℕ) (line : List ℕ) → IsDue call status line → IsExpected call expected → status ≡ expected
-due_expected call status expected line (inl d) (inl e) = absurd (none-some d.1.run (sym e.1 ∙ d.1.accepted.loaded.is_command))
-due_expected call status expected line (inl d) (inr (run, capture_bytes, script_bytes, l, e)) =
-    d.0 ∙ sym (accepts call run d.1.run capture_bytes script_bytes d.1.capture d.1.script d.1.graphs expected l d.1.accepted e).0
-due_expected call status expected line (inr (refusal, s, t, r)) (inl e) = s ∙ usage refusal r ∙ sym e.0
-  where
-    usage : (refusal : Refusal) → IsRefused call refusal → status_of refusal ≡ 2
-    usage refusals.Usage r = refl
-    usage (refusals.Load name) r = absurd (none-some r.0.run (sym e.1 ∙ r.0.is_command))
-    usage (refusals.Capture fault) r = absurd (none-some r.0.run (sym e.1 ∙ r.0.loaded.is_command))
-    usage (refusals.Script error) r = absurd (none-some r.0.run (sym e.1 ∙ r.0.loaded.is_command))
-    usage (refusals.Save name) r = absurd (none-some r.run (sym e.1 ∙ r.accepted.loaded.is_command))
-due_expected call status expected line (inr (refusal, s, t, r)) (inr (run, capture_bytes, script_bytes, l, e)) =
-    s ∙ refused_expected call run capture_bytes script_bytes expected refusal l e r
+pub due_expected : (call : Call) (due : Due) (expected : ℕ) → IsDueOf call due → IsExpected call expected → due.status ≡ expected
+due_expected call due expected (inl d) (inl e) = absurd (none-some d.1.0.run (sym e.1 ∙ d.1.0.accepted.loaded.is_command))
+due_expected call due expected (inl d) (inr (run, bytes, l, e, none)) =
+    d.0 ∙ sym (e ∙ brings_none call run bytes l d.1.0.run d.1.0.capture d.1.0.script d.1.0.graphs d.1.0.accepted)
+due_expected call due expected (inr (no_end, (refusal, s, t, r))) (inl e) = s ∙ sym (refused_usage call refusal e.1 r) ∙ sym e.0
+due_expected call due expected (inr (no_end, (refusal, s, t, r))) (inr (run, bytes, l, e, none)) = s ∙ refused_expected call run bytes l expected refusal e none r
+
+-- ---- by status
 
 -- a refusal's status is at least 2
 status_least : (refusal : Refusal) → 2 ≤ status_of refusal
@@ -128,15 +153,38 @@ status_least refusals.Usage = omega arith
 status_least (refusals.Load name) = omega arith
 status_least (refusals.Capture fault) = omega arith
 status_least (refusals.Script error) = omega arith
+status_least (refusals.Turns place) = omega arith
 status_least (refusals.Save name) = omega arith
 
--- 0 is due where a run is done
-pub done_at : (call : Call) (status : ℕ) (line : List ℕ) → IsDue call status line → status ≡ 0 → IsDone call line
-done_at call status line (inl d) e = d.1
-done_at call status line (inr (refusal, s, t, r)) e = let least = status_least refusal in absurd (omega (arith, least, s, e))
+status_most : (refusal : Refusal) → status_of refusal ≤ 8
+status_most refusals.Usage = omega arith
+status_most (refusals.Load name) = omega arith
+status_most (refusals.Capture fault) = omega arith
+status_most (refusals.Script error) = omega arith
+status_most (refusals.Turns place) = omega arith
+status_most (refusals.Save name) = omega arith
+
+pub known : (call : Call) (due : Due) → IsDueOf call due → due.status ≤ 8
+known call due (inl d) = let none = d.0 in omega (arith, none)
+known call due (inr r) = let most = status_most r.1.0 in let is = r.1.1 in omega (arith, most, is)
+
+-- 0 is due where a run is done, and its end is there
+pub done_at : (call : Call) (due : Due) → IsDueOf call due → due.status ≡ 0 → (done : IsDone call due.text) × IsSomeAnd due.ran (IsEndOf done)
+done_at call due (inl d) e = d.1
+done_at call due (inr (no_end, (refusal, s, t, r))) e = let least = status_least refusal in absurd (omega (arith, least, s, e))
+
+-- no end is there where a run is refused
+pub ran_at : (call : Call) (due : Due) → IsDueOf call due → IsSome due.ran → due.status ≡ 0
+ran_at call due (inl d) some = d.0
+ran_at call due (inr r) some = absurd (false≢true (subst IsSome r.0 some))
 
 -- another status is due where a run is refused
-pub refused_at : (call : Call) (status : ℕ) (line : List ℕ) → IsDue call status line → 2 ≤ status
-    → (refusal : Refusal) × (status ≡ status_of refusal) × (line ≡ line_of refusal) × IsRefused call refusal
-refused_at call status line (inl d) h = let none = d.0 in absurd (omega (arith, none, h))
-refused_at call status line (inr r) h = r
+pub refused_at : (call : Call) (due : Due) → IsDueOf call due → 2 ≤ due.status
+    → (refusal : Refusal) × (due.status ≡ status_of refusal) × (due.text ≡ line_of refusal) × IsRefused call refusal
+refused_at call due (inl d) h = let none = d.0 in absurd (omega (arith, none, h))
+refused_at call due (inr r) h = r.1
+
+-- what is due, without the end of a run
+pub due_is : (call : Call) (due : Due) → IsDueOf call due → IsDue call due.status due.text
+due_is call due (inl d) = inl (d.0, d.1.0)
+due_is call due (inr r) = inr r.1

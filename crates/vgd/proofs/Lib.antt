@@ -1,15 +1,12 @@
-pub mod CongestionLemmas
 pub mod CountLemmas
 pub mod ExpectedLemmas
-pub mod LawLemmas
+pub mod LoadLemmas
 pub mod OutputLemmas
-pub mod LawfulLemmas
-pub mod OneWorkerLemmas
 pub mod PrintLemmas
 pub mod ReportLemmas
 pub mod RunLemmas
 pub mod ScriptLemmas
 pub mod SentLemmas
-pub mod TraceLemmas
+pub mod TurnLemmas
 pub mod WordLemmas
 pub mod NameLemmas

@@ -1,5 +1,5 @@
 -- Ends by the names of a graph's interfaces and nodes.
-use Rattle.std.proofs.Common.{◌≡◌, ℕ, ◌+◌, ◌<◌, List, [], ◌∷◌, ◌++◌, map, length, take, refl, sym, ap, subst, ◌∙◌, arith}
+use Rattle.std.proofs.Common.{◌≡◌, ℕ, ◌+◌, List, [], ◌∷◌, ◌++◌, map, take, refl, sym, ap, subst, ◌∙◌, arith}
 use Rattle.std.specs.Prelude.{Some, slice_get, option_map, unwrap_or}
 use Rattle.std.specs.List.{AllByRecursion}
 use Rattle.std.proofs.lemmas.List.{map_push, length-map}
@@ -10,11 +10,11 @@ use Rattle.vg_model.specs.declared.fates.Fate.{Fate}
 use Rattle.vg_model.specs.declared.fates.End.{End}
 use Rattle.vg_model.specs.declared.fates.End.TheVariants as numbers
 use Rattle.vg_model.specs.Graph.{Graph, Node}
-use Rattle.vg_engine.specs.Ends.{IsEndIn}
+use Rattle.vg_journeys.specs.Ends.{IsEndIn}
 use Rattle.vg_report.specs.declared.reports.PacketLine.{PacketLine}
 use Rattle.vg_report.specs.declared.reports.PacketEnd.TheVariants as ends
-use Rattle.vg_report.specs.Named.{name_at, end_by, line_by, lines_of, IsNamed, AreNamed}
-use Rattle.vgd.specs.Output.{named_end, node_name, interface_name}
+use Rattle.vg_report.specs.Named.{name_at, end_by, lines_of, IsNamed, AreNamed}
+use Rattle.vg_check.specs.Output.{named_end}
 use Rattle.vgd.specs.Reports.{line_of_fate}
 use Rattle.vgd.proofs.CountLemmas.{next_entry}
 

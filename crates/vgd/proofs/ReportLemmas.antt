@@ -8,7 +8,7 @@ use Rattle.vg_model.specs.Graph.{Graph, Node}
 use Rattle.vg_model.specs.Journey.{Journey, fate_of}
 use Rattle.vg_model.specs.Count.{trace, error_count}
 use Rattle.vg_counters.specs.Tally.{drops_at}
-use Rattle.vgd.specs.Output.{node_name, node_errors, packet_line_of}
+use Rattle.vg_check.specs.Output.{node_name, node_errors, packet_line_of}
 use Rattle.vgd.specs.Reports.{counted, made_entry, made_of, made_by, all_made, line_of_fate}
 
 -- counts by name, where they are counts by number, from a number on

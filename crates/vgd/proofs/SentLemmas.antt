@@ -16,9 +16,9 @@ use Rattle.vg_model.specs.Journey.{Journey, longest_packet, sent, sent_as, fate_
 use Rattle.vg_capture.specs.declared.captures.Captured.{Captured}
 use Rattle.vg_capture.specs.Savefile.{sent_in}
 use Rattle.vg_plan.specs.Routed.{with_routes}
-use Rattle.vg_engine.specs.Ends.{IsEndIn}
+use Rattle.vg_journeys.specs.Ends.{IsEndIn}
 use Rattle.vgd.proofs.CountLemmas.{next_entry}
-use Rattle.vgd.proofs.CongestionLemmas.{IsOwn}
+use Rattle.vg_check.proofs.JourneyLemmas.{IsOwn}
 
 -- one packet more
 pub records_more : (packets : List Captured) (sent : List (ℕ × List ℕ)) (k : ℕ) (packet : ℕ × List ℕ) → slice_get sent k ≡ Some packet
@@ -34,9 +34,9 @@ sent_number n number bytes (Sent interface) rest h all = (h, all)
 sent_number n number bytes (Dropped node error) rest h all = all
 sent_number n number bytes (Handed node worker) rest h all = all
 
-sent_numbers : (graphs : List Graph) (n : ℕ) (js : List Journey) → AllByRecursion (IsOwn graphs n) js → AllByRecursion (λ (p : ℕ × List ℕ). p.0 < n) (sent js)
-sent_numbers graphs n [] all = tt
-sent_numbers graphs n (j ∷ js) all = sent_number n j.number j.course.packet.bytes j.course.outcome (sent js) all.0.number (sent_numbers graphs n js all.1)
+sent_numbers : (workers n : ℕ) (js : List Journey) → AllByRecursion (IsOwn workers n) js → AllByRecursion (λ (p : ℕ × List ℕ). p.0 < n) (sent js)
+sent_numbers workers n [] all = tt
+sent_numbers workers n (j ∷ js) all = sent_number n j.number j.course.packet.bytes j.course.outcome (sent js) all.0.number (sent_numbers workers n js all.1)
 
 -- so a savefile of them can be written
 both_of : (n : ℕ) (xs : List (ℕ × List ℕ)) → AllByRecursion (λ (p : ℕ × List ℕ). p.0 < n) xs → AllByRecursion (λ (p : ℕ × List ℕ). length p.1 ≤ longest_packet) xs
@@ -44,11 +44,11 @@ both_of : (n : ℕ) (xs : List (ℕ × List ℕ)) → AllByRecursion (λ (p : �
 both_of n [] all short = tt
 both_of n (x ∷ xs) all short = ((all.0, let least = short.0 in omega (arith, least)), both_of n xs all.1 short.1)
 
-pub are_within : (graphs : List Graph) (n : ℕ) (xs : List (ℕ × List ℕ)) (js : List Journey) → xs ≡ sent js → AllByRecursion (IsOwn graphs n) js
+pub are_within : (workers n : ℕ) (xs : List (ℕ × List ℕ)) (js : List Journey) → xs ≡ sent js → AllByRecursion (IsOwn workers n) js
     → AllByRecursion (λ (p : ℕ × List ℕ). length p.1 ≤ longest_packet) (sent js) → All (λ (p : ℕ × List ℕ). (p.0 < n) × (length p.1 < 2 ^ 32)) xs
-are_within graphs n xs js e own short =
+are_within workers n xs js e own short =
     All-from_recursion (λ (p : ℕ × List ℕ). (p.0 < n) × (length p.1 < 2 ^ 32)) xs
-    (both_of n xs (subst (AllByRecursion (λ (p : ℕ × List ℕ). p.0 < n)) (sym e) (sent_numbers graphs n js own))
+    (both_of n xs (subst (AllByRecursion (λ (p : ℕ × List ℕ). p.0 < n)) (sym e) (sent_numbers workers n js own))
     (subst (AllByRecursion (λ (p : ℕ × List ℕ). length p.1 ≤ longest_packet)) (sym e) short))
 
 -- an end in a graph with routes is one in the graph

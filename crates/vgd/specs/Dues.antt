@@ -1,29 +1,42 @@
--- What is due where a run stops.
-use Rattle.std.specs.Prelude.{◌≡◌}
-use Rattle.vgd.specs.declared.refusals.Stop.{Stop}
-use Rattle.vgd.specs.declared.refusals.Stop.TheVariants as stops
-use Rattle.vgd.specs.declared.run.Due.{Due}
+-- What is due where a run stops, and where it ends.
+use Rattle.std.specs.Prelude.{◌≡◌, ◌⊎◌, length, None, IsSomeAnd}
 use Rattle.vg_model.specs.Visit.{ip4_visit}
 use Rattle.vg_capture.specs.declared.captures.Capture.{Capture}
 use Rattle.vg_report.specs.declared.reports.Report.{Report}
 use Rattle.vg_report.specs.Text.{text}
-use Rattle.vgd.specs.declared.run.Texts.{Texts}
-use Rattle.vg_words.specs.Command.{Run}
 use Rattle.vg_plan.specs.Plan.{Planned, first_generation}
 use Rattle.vg_dispatch.specs.declared.options.Options.{Options}
-use Rattle.vgd.specs.Command.{options_of}
-use Rattle.vgd.specs.Output.{IsOutput}
-use Rattle.vgd.specs.Run.{status_of, line_of}
+use Rattle.vg_check.specs.Output.{Setting, IsOutput}
+use Rattle.vg_check.specs.OneWorker.{alone, HasOwnEnds}
+use Rattle.vgd.specs.declared.refusals.Refusal.{Refusal}
+use Rattle.vgd.specs.declared.refusals.Stop.{Stop}
+use Rattle.vgd.specs.declared.refusals.Stop.TheVariants as stops
+use Rattle.vgd.specs.declared.run.Due.{Due}
+use Rattle.vgd.specs.declared.run.Results.{Results}
+use Rattle.vgd.specs.Ended.{HasEnded}
+use Rattle.vgd.specs.Run.{Call, IsDone, IsEndOf, IsRefused, status_of, line_of}
 
--- the status and the line of the refusal; nothing is due at want of memory
+-- the status and the line of the refusal, and no end of a run; nothing is due at want of memory
 abbrev pub IsDueFor : Stop → Due → Type 0
 IsDueFor stops.Memory due = ⊥
-IsDueFor (stops.Refused refusal) due = (due.status ≡ status_of refusal) × (due.text ≡ line_of refusal)
+IsDueFor (stops.Refused refusal) due = (due.status ≡ status_of refusal) × (due.text ≡ line_of refusal) × (due.ran ≡ None)
 
--- the savefile and the text of the report of what a capture's packets become by this plan and these options, whatever the files
--- of the run are called
-pub record AreTextsOf (plan : Planned) (options : Options) (capture : Capture) (texts : Texts) : Type 0 where
+-- what options say of the output
+abbrev pub setting_in : Options → Setting
+setting_in options = record { workers = options.workers; buffers = options.buffers; queue = options.queue; trace = options.trace }
+
+-- the savefile and the text of the report of what a capture's packets become by this plan and these options, and the end of the run that
+-- made them
+pub record AreResultsOf (plan : Planned) (options : Options) (capture : Capture) (results : Results) : Type 0 where
   pub report : Report
-  pub is_text : texts.report ≡ text report
-  pub output : (run : Run) → options_of run ≡ options
-      → IsOutput ip4_visit plan.graphs (first_generation plan.script capture) run capture report texts.tx
+  pub is_text : results.report ≡ text report
+  pub output : IsOutput ip4_visit plan.graphs (first_generation plan.script capture) (setting_in options) capture report results.tx
+  pub end : HasEnded options.workers plan.graphs output.js results.end
+  pub alike : length plan.graphs ≡ 1 → HasOwnEnds report
+      → (other : Report) × IsOutput ip4_visit plan.graphs (first_generation plan.script capture) (alone (setting_in options)) capture other results.tx
+
+-- what is due of a call, whole: at status 0 the run is done and this is its end, and else the run is refused and has no end
+abbrev pub IsDueOf : Call → Due → Type 0
+IsDueOf call due =
+    ((due.status ≡ 0) × ((done : IsDone call due.text) × IsSomeAnd due.ran (IsEndOf done)))
+    ⊎ ((due.ran ≡ None) × ((refusal : Refusal) × (due.status ≡ status_of refusal) × (due.text ≡ line_of refusal) × IsRefused call refusal))

@@ -1,9 +1,9 @@
 pub mod Command
+pub mod Files
 pub mod Plan
-pub mod Output
+pub mod Ended
 pub mod Run
 pub mod Stops
 pub mod Dues
 pub mod Expected
 pub mod Reports
-pub mod OneWorker

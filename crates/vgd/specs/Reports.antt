@@ -10,7 +10,7 @@ use Rattle.vg_report.specs.declared.reports.PacketLine.{PacketLine}
 use Rattle.vg_report.specs.declared.reports.Report.{Report}
 use Rattle.vg_dispatch.specs.declared.options.Options.{Options}
 use Rattle.vg_engine.specs.declared.runs.Outcome.{Outcome}
-use Rattle.vgd.specs.Output.{named_end, node_name}
+use Rattle.vg_check.specs.Output.{named_end, node_name}
 
 -- each by its name, with the count of its number
 abbrev pub counted : {X : Type 0} → (X → List ℕ) → List X → List ℕ → List (List ℕ × ℕ)
@@ -40,7 +40,7 @@ line_of_fate g fate = record { legs = fate.legs; congested = fate.congested; end
 abbrev pub reported : Options → (generations : ℕ) → Outcome → Report
 reported options generations outcome = record {
   workers = options.workers;
-  buffers = outcome.buffers;
+  buffers = outcome.settled.len;
   generations = generations;
   interfaces = counted (λ interface. interface.name) outcome.last.interfaces outcome.counts.sends;
   nodes = counted (λ node. node.name) outcome.last.nodes outcome.counts.visits;

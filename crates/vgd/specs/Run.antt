@@ -1,27 +1,33 @@
 -- What a run of the program answers and what it leaves behind.
-use Rattle.std.specs.Prelude.{◌≡◌, ◌≢◌, ◌⊎◌, ℕ, ◌<◌, ◌+◌, ◌++◌, List, [], ◌∷◌, length, take, codes, decimal, Option, Some, None, option_map, IfSome, IsSome, Ok, Err}
+use Rattle.std.specs.Prelude.{◌≡◌, ◌≢◌, ◌⊎◌, ℕ, ◌<◌, ◌++◌, List, [], ◌∷◌, length, take, codes, decimal, Option, Some, None, option_map, Ok, Err}
 use Rattle.std.specs.Borrow.{Bor}
 use Rattle.vg_model.specs.Graph.{Graph}
 use Rattle.vg_model.specs.Visit.{ip4_visit}
-use Rattle.vg_outside.specs.Files.{Files, file, Rose, FirstBytes, FailedLoad, HoldsBytes, SameElsewhere}
+use Rattle.vg_outside.specs.Files.{Files, Rose, FailedLoad, HoldsBytes, SameElsewhere}
 use Rattle.vg_capture.specs.declared.captures.Capture.{Capture}
 use Rattle.vg_capture.specs.declared.errors.CaptureError.{CaptureError}
 use Rattle.vg_capture.specs.declared.errors.CaptureError.TheVariants as faults
-use Rattle.vg_capture.specs.Savefile.{capture_of, largest_file}
+use Rattle.vg_capture.specs.Savefile.{capture_of}
 use Rattle.vg_script.specs.declared.errors.ScriptError.{ScriptError}
 use Rattle.vg_script.specs.declared.scripts.Script.{Script}
 use Rattle.vg_script.specs.Causes.{cause_word}
 use Rattle.vg_script.specs.Generations.{generations_of}
-use Rattle.vg_script.specs.Reading.{script_of, largest_script}
+use Rattle.vg_script.specs.Reading.{script_of}
 use Rattle.vg_report.specs.declared.reports.Report.{Report}
 use Rattle.vg_report.specs.Text.{text}
 use Rattle.vgd.specs.declared.refusals.Refusal.{Refusal}
 use Rattle.vgd.specs.declared.refusals.Refusal.TheVariants as refusals
 use Rattle.vg_plan.specs.Plan.{first_generation}
 use Rattle.vg_words.specs.Command.{Run, texts}
-use Rattle.vgd.specs.Command.{run_asked}
+use Rattle.vg_turns.specs.declared.steps.Step.{Step}
+use Rattle.vg_turns.specs.Turns.{turns as turns_in}
+use Rattle.vg_check.specs.Output.{IsOutput}
+use Rattle.vg_check.specs.OneWorker.{alone, HasOwnEnds}
+use Rattle.vgd.specs.declared.done.RunEnd.{RunEnd}
+use Rattle.vgd.specs.Command.{run_asked, setting_of}
 use Rattle.vgd.specs.Plan.{graphs_of}
-use Rattle.vgd.specs.Output.{IsOutput}
+use Rattle.vgd.specs.Files.{FileBytes, HoldsFiles, IsLoadedNext}
+use Rattle.vgd.specs.Ended.{HasEnded}
 
 -- a call: its words, and of the folder, before and after, its files where it tells them and how often calls on a name have failed
 pub record Call : Type 0 where
@@ -31,20 +37,20 @@ pub record Call : Type 0 where
   pub faults : List ℕ → ℕ
   pub faults_after : List ℕ → ℕ
 
--- the words ask for this run, and these are what its capture and its script held, where the folder tells its files
-pub record AreLoaded (call : Call) (run : Run) (capture_bytes script_bytes : List ℕ) : Type 0 where
+-- the words ask for this run, and these are the bytes of its files, where the folder tells them
+pub record AreLoaded (call : Call) (run : Run) (bytes : FileBytes) : Type 0 where
   pub is_command : run_asked call.words ≡ Some run
-  pub capture_file : IfSome call.files (λ files. file files run.capture ≡ Some capture_bytes)
-  pub script_file : IfSome call.files (λ files. file files run.script ≡ Some script_bytes)
+  pub files : HoldsFiles call.files run bytes
 
--- the capture and the script were loaded and accepted: this capture, and this script with the graphs of its generations
+-- the files were loaded and accepted: this capture, this script with the graphs of its generations, and turns of the run's workers
 pub record AreAccepted (call : Call) (run : Run) (capture : Capture) (script : Script) (graphs : List Graph) : Type 0 where
-  pub capture_bytes : List ℕ
-  pub script_bytes : List ℕ
-  pub loaded : AreLoaded call run capture_bytes script_bytes
-  pub is_capture : capture_of capture_bytes ≡ Ok capture
-  pub is_script : script_of script_bytes ≡ Ok script
+  pub bytes : FileBytes
+  pub loaded : AreLoaded call run bytes
+  pub is_capture : capture_of bytes.capture ≡ Ok capture
+  pub is_script : script_of bytes.script ≡ Ok script
   pub are_graphs : generations_of script ≡ Ok graphs
+  pub steps : List Step
+  pub are_turns : turns_in run.workers bytes.turns ≡ Ok steps
 
 -- a run is done: the folder holds the savefile of the run, all its other files are as before, and this is the text of its report
 pub record IsDone (call : Call) (line : List ℕ) : Type 0 where
@@ -55,40 +61,52 @@ pub record IsDone (call : Call) (line : List ℕ) : Type 0 where
   pub report : Report
   pub tx : List ℕ
   pub accepted : AreAccepted call run capture script graphs
-  pub output : IsOutput ip4_visit graphs (first_generation script capture) run capture report tx
+  pub output : IsOutput ip4_visit graphs (first_generation script capture) (setting_of run) capture report tx
   pub printed : line ≡ text report
   pub saved : HoldsBytes call.files_after run.tx tx
   pub others : SameElsewhere call.files call.files_after run.tx
+  -- where there is one generation, and no packet was dropped by a full queue or by the limit of legs, one worker saves the same
+  pub alike : length graphs ≡ 1 → HasOwnEnds report
+      → (other : Report) × IsOutput ip4_visit graphs (first_generation script capture) (alone (setting_of run)) capture other tx
 
--- the file is the capture, or it is the script and the capture was there
-abbrev pub IsLoadedNext : Option Files → (capture script : List ℕ) → List ℕ → Type 0
-IsLoadedNext files capture script name = (name ≡ capture) ⊎ ((name ≡ script) × IfSome files (λ fs. IsSome (file fs capture)))
+-- and this is the end of the run whose report was printed
+abbrev pub IsEndOf : {call : Call} {line : List ℕ} → IsDone call line → RunEnd → Type 0
+IsEndOf done end = HasEnded done.run.workers done.graphs done.output.js end
 
--- a file that the words name couldn't be loaded: the capture comes first
+-- a file that the words name couldn't be loaded; those before it were
 pub record IsLoadFault (call : Call) (name : List ℕ) : Type 0 where
   pub run : Run
   pub is_command : run_asked call.words ≡ Some run
-  pub named : IsLoadedNext call.files run.capture run.script name
+  pub named : IsLoadedNext call.files run name
   pub fault : FailedLoad call.files name (call.faults name) (call.faults_after name)
 
 -- the capture is no savefile: this is its first check that fails
 pub record IsCaptureFault (call : Call) (fault : CaptureError) : Type 0 where
   pub run : Run
-  pub capture_bytes : List ℕ
-  pub script_bytes : List ℕ
-  pub loaded : AreLoaded call run capture_bytes script_bytes
-  pub is_fault : capture_of capture_bytes ≡ Err fault
+  pub bytes : FileBytes
+  pub loaded : AreLoaded call run bytes
+  pub is_fault : capture_of bytes.capture ≡ Err fault
   pub no_memory : fault ≢ faults.Memory
 
 -- the capture is accepted, and the script is not: this is its first faulty line, or the first of its edits that is refused
 pub record IsScriptFault (call : Call) (error : ScriptError) : Type 0 where
   pub run : Run
+  pub bytes : FileBytes
+  pub loaded : AreLoaded call run bytes
   pub capture : Capture
-  pub capture_bytes : List ℕ
-  pub script_bytes : List ℕ
-  pub loaded : AreLoaded call run capture_bytes script_bytes
-  pub is_capture : capture_of capture_bytes ≡ Ok capture
-  pub is_fault : graphs_of script_bytes ≡ Err error
+  pub is_capture : capture_of bytes.capture ≡ Ok capture
+  pub is_fault : graphs_of bytes.script ≡ Err error
+
+-- the capture and the script are accepted, and the turns file is not: this is the place of its first faulty byte
+pub record IsTurnsFault (call : Call) (place : ℕ) : Type 0 where
+  pub run : Run
+  pub bytes : FileBytes
+  pub loaded : AreLoaded call run bytes
+  pub capture : Capture
+  pub is_capture : capture_of bytes.capture ≡ Ok capture
+  pub graphs : List Graph
+  pub are_graphs : graphs_of bytes.script ≡ Ok graphs
+  pub is_fault : turns_in run.workers bytes.turns ≡ Err place
 
 -- all was accepted, and the savefile couldn't be saved; the folder's other files are as before
 pub record IsSaveFault (call : Call) (name : List ℕ) : Type 0 where
@@ -107,6 +125,7 @@ IsRefused call refusals.Usage = (run_asked call.words ≡ None) × (call.files_a
 IsRefused call (refusals.Load name) = IsLoadFault call name.now × (call.files_after ≡ call.files)
 IsRefused call (refusals.Capture fault) = IsCaptureFault call fault × (call.files_after ≡ call.files)
 IsRefused call (refusals.Script error) = IsScriptFault call error × (call.files_after ≡ call.files)
+IsRefused call (refusals.Turns place) = IsTurnsFault call place × (call.files_after ≡ call.files)
 IsRefused call (refusals.Save name) = IsSaveFault call name.now
 
 -- the status of a refusal
@@ -116,6 +135,7 @@ status_of (refusals.Load name) = 3
 status_of (refusals.Capture fault) = 4
 status_of (refusals.Script error) = 5
 status_of (refusals.Save name) = 6
+status_of (refusals.Turns place) = 8
 
 -- the words for a capture's fault: its cause and its place
 abbrev pub capture_fault : CaptureError → List ℕ
@@ -138,6 +158,7 @@ words_of refusals.Usage = codes "usage"
 words_of (refusals.Load name) = codes "load " ++ name.now
 words_of (refusals.Capture fault) = codes "capture " ++ capture_fault fault
 words_of (refusals.Script error) = codes "script " ++ script_fault error
+words_of (refusals.Turns place) = codes "turns " ++ decimal place
 words_of (refusals.Save name) = codes "save " ++ name.now
 
 -- the line with its line feed
@@ -157,11 +178,6 @@ Appends before after bytes = after ≡ option_map (λ all. all ++ bytes) before
 -- where the sink tells its bytes, a front of these was added that is not all of them
 abbrev pub AppendsFront : Option (List ℕ) → Option (List ℕ) → List ℕ → Type 0
 AppendsFront before after bytes = (n : ℕ) × (n < length bytes) × Appends before after (take n bytes)
-
--- what a folder gave for a run's two files, each up to its greatest length and one byte more
-pub record AreFirstBytes (files : Option Files) (capture_name script_name capture_bytes script_bytes : List ℕ) : Type 0 where
-  pub capture : FirstBytes files capture_name (largest_file + 1) capture_bytes
-  pub script : FirstBytes files script_name (largest_script + 1) script_bytes
 
 -- a call, by what its contract sees of it
 abbrev pub called : List (Bor (List ℕ)) → (files files_after : Option Files) → (faults faults_after : List ℕ → ℕ) → Call

@@ -1,9 +1,13 @@
 -- Why a run stops before its end.
 use Rattle.std.specs.Prelude.{◌≡◌, ◌≢◌, ℕ, List, Ok, Err}
+use Rattle.vg_model.specs.Graph.{Graph}
 use Rattle.vg_capture.specs.declared.captures.Capture.{Capture}
 use Rattle.vg_capture.specs.declared.errors.CaptureError.TheVariants as faults
 use Rattle.vg_capture.specs.Savefile.{capture_of}
+use Rattle.vg_turns.specs.declared.steps.Step.{Step}
+use Rattle.vg_turns.specs.Turns.{turns as turns_in}
 use Rattle.vgd.specs.Plan.{graphs_of, MakesPlan}
+use Rattle.vgd.specs.Files.{FileBytes}
 use Rattle.vgd.specs.declared.reading.Input.{Input}
 use Rattle.vgd.specs.declared.refusals.Refusal.{Refusal}
 use Rattle.vgd.specs.declared.refusals.Refusal.TheVariants as refusals
@@ -21,18 +25,24 @@ IsLoadOf P refusals.Usage = ⊥
 IsLoadOf P (refusals.Load name) = P name.now
 IsLoadOf P (refusals.Capture fault) = ⊥
 IsLoadOf P (refusals.Script error) = ⊥
+IsLoadOf P (refusals.Turns place) = ⊥
 IsLoadOf P (refusals.Save name) = ⊥
 
--- these bytes are no savefile, or they are one and those bytes are no script whose edits can all be made
-abbrev pub IsRefusedFor : List ℕ → List ℕ → Refusal → Type 0
-IsRefusedFor capture_bytes script_bytes refusals.Usage = ⊥
-IsRefusedFor capture_bytes script_bytes (refusals.Load name) = ⊥
-IsRefusedFor capture_bytes script_bytes (refusals.Capture fault) = (capture_of capture_bytes ≡ Err fault) × (fault ≢ faults.Memory)
-IsRefusedFor capture_bytes script_bytes (refusals.Script error) =
-    ((c : Capture) × (capture_of capture_bytes ≡ Ok c)) × (graphs_of script_bytes ≡ Err error)
-IsRefusedFor capture_bytes script_bytes (refusals.Save name) = ⊥
+-- what was loaded is refused, for so many workers: the capture is no savefile; or it is one, and the script is none whose edits can all be
+-- made; or both are accepted, and the turns file has a faulty byte
+abbrev pub IsRefusedFor : (workers : ℕ) → FileBytes → Refusal → Type 0
+IsRefusedFor workers bytes refusals.Usage = ⊥
+IsRefusedFor workers bytes (refusals.Load name) = ⊥
+IsRefusedFor workers bytes (refusals.Capture fault) = (capture_of bytes.capture ≡ Err fault) × (fault ≢ faults.Memory)
+IsRefusedFor workers bytes (refusals.Script error) = ((c : Capture) × (capture_of bytes.capture ≡ Ok c)) × (graphs_of bytes.script ≡ Err error)
+IsRefusedFor workers bytes (refusals.Turns place) =
+    ((c : Capture) × (capture_of bytes.capture ≡ Ok c)) × ((graphs : List Graph) × (graphs_of bytes.script ≡ Ok graphs))
+    × (turns_in workers bytes.turns ≡ Err place)
+IsRefusedFor workers bytes (refusals.Save name) = ⊥
 
--- both are accepted: these are the capture and the plan
-pub record AreRead (capture_bytes script_bytes : List ℕ) (input : Input) : Type 0 where
-  pub is_capture : capture_of capture_bytes ≡ Ok input.capture
-  pub makes : MakesPlan script_bytes input.plan
+-- all is accepted: these are the capture and the plan, and the turns file is kept
+pub record AreRead (workers : ℕ) (bytes : FileBytes) (input : Input) : Type 0 where
+  pub is_capture : capture_of bytes.capture ≡ Ok input.capture
+  pub makes : MakesPlan bytes.script input.plan
+  pub steps : List Step
+  pub are_turns : turns_in workers bytes.turns ≡ Ok steps

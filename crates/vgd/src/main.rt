@@ -1,8 +1,10 @@
 //! `vgd`: the packets of a savefile through a graph of nodes.
 #![tactic(auto)]
 
-pub mod laws;
+pub mod done;
 pub mod loading;
+#[cfg(test)]
+mod memory_runs;
 pub mod printing;
 pub mod reading;
 pub mod refusals;
@@ -11,13 +13,15 @@ pub mod run;
 #[cfg(test)]
 mod tests;
 pub mod top;
+#[cfg(test)]
+mod worker_tests;
 
 use std::io::ErrorKind;
 use std::process::ExitCode;
 use std::rt::Env;
 use std::{env, io};
 use top::vgd_run;
-use vg_outside::{RealFolder, RealSink};
+use vg_outside::{OpenGate, RealFolder, RealSink};
 
 /// The words after the program's name.
 fn program_words<R: Env + AllocGlobal>(rt: &R) -> io::Result<Vec<String>> {
@@ -45,5 +49,13 @@ fn main(rt: HostRuntime) -> ExitCode {
     };
     let mut folder = RealFolder::new(rt);
     let mut out = RealSink::new(rt);
-    ExitCode::from(vgd_run(alloc, words.as_slice(), &mut folder, &mut out))
+    let done = vgd_run(
+        &rt,
+        alloc,
+        words.as_slice(),
+        &mut folder,
+        &mut out,
+        &OpenGate,
+    );
+    ExitCode::from(done.status)
 }

@@ -17,6 +17,8 @@ pub enum Refusal<'a> {
     Capture(CaptureError),
     /// The script is not one that makes a graph.
     Script(ScriptError),
+    /// The turns file has a faulty byte at this place, counted from 0.
+    Turns(u32),
     /// This file could not be saved.
     Save(&'a str),
 }
@@ -31,7 +33,7 @@ pub enum Stop<'a> {
 }
 
 impl Refusal<'_> {
-    /// The exit status: 2 for the words, 3 for a load, 4 for the capture, 5 for the script, 6 for the save.
+    /// The exit status: 2 for the words, 3 for a load, 4 for the capture, 5 for the script, 6 for the save, 8 for the turns file.
     pub fn status(&self) -> u8
         ensures { result ≡ status_of self.now }
     {
@@ -40,6 +42,7 @@ impl Refusal<'_> {
             Refusal::Load(_) => 3,
             Refusal::Capture(_) => 4,
             Refusal::Script(_) => 5,
+            Refusal::Turns(_) => 8,
             Refusal::Save(_) => 6,
         }
     }
@@ -53,6 +56,7 @@ impl Refusal<'_> {
             Refusal::Load(name) => format!(in alloc; "load {name}\n"),
             Refusal::Capture(fault) => capture_line(alloc, *fault),
             Refusal::Script(fault) => script_line(alloc, *fault),
+            Refusal::Turns(place) => format!(in alloc; "turns {place}\n"),
             Refusal::Save(name) => format!(in alloc; "save {name}\n"),
         }
     }

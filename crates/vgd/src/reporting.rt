@@ -3,10 +3,11 @@ ghost use Rattle.std.specs.Prelude.{◌≡◌, ◌++◌, ◌<◌, ◌≤◌, len
 ghost use Rattle.std.specs.List.{AllByRecursion};
 ghost use Rattle.vg_model.specs.Errors.{all_errors};
 ghost use Rattle.vg_model.specs.Name.{IsName};
-ghost use Rattle.vg_engine.specs.Ends.{IsEndIn};
-ghost use Rattle.vgd.specs.Output.{node_name};
+ghost use Rattle.vg_journeys.specs.Ends.{IsEndIn};
+ghost use Rattle.vg_check.specs.Output.{node_name};
 ghost use Rattle.vgd.specs.Reports.{counted, made_of, made_by, all_made, line_of_fate, reported};
 
+use crate::done::RunEnd;
 use std::alloc::{AllocError, Global};
 use vg_counters::{Counters, TraceLists};
 use vg_engine::{Options, Outcome};
@@ -138,37 +139,43 @@ fn traces(alloc: Global, graph: &Graph, lists: &TraceLists) -> Result<TraceLines
     Ok(TraceLines::from_vec(traces))
 }
 
-/// The report of what came of a run over so many generations.
+/// The report of what came of a run over so many generations, and the end of the run.
 pub fn report(
     alloc: Global,
     options: &Options,
     generations: u32,
     outcome: Outcome,
-) -> Result<Report, AllocError>
+) -> Result<(Report, RunEnd), AllocError>
     requires nodes { length outcome.last.nodes ≤ length outcome.counts.visits }
     requires interfaces { length outcome.last.interfaces ≤ length outcome.counts.sends }
     requires ends { AllByRecursion (λ fate. IsEndIn outcome.last fate.end) outcome.fates }
     requires traces { AllByRecursion (AllByRecursion (λ node. node < length outcome.last.nodes)) outcome.trace }
-    ensures report { IfOk result (λ report. report ≡ reported options.now generations outcome) }
-    ensures interfaces { IfOk result (λ report. AllByRecursion (λ entry. IsName entry.0) report.interfaces) }
-    ensures nodes { IfOk result (λ report. AllByRecursion (λ entry. IsName entry.0) report.nodes) }
+    ensures report { IfOk result (λ r. r.0 ≡ reported options.now generations outcome) }
+    ensures interfaces { IfOk result (λ r. AllByRecursion (λ entry. IsName entry.0) r.0.interfaces) }
+    ensures nodes { IfOk result (λ r. AllByRecursion (λ entry. IsName entry.0) r.0.nodes) }
+    ensures rests { IfOk result (λ r. r.1.rests ≡ outcome.rests) }
+    ensures seat { IfOk result (λ r. r.1.seat ≡ outcome.seat) }
 {
     let Outcome {
         fates,
         sent: _,
         counts,
         trace,
-        buffers,
+        buffers: _,
+        settled,
         last,
+        rests,
+        seat,
     } = outcome;
-    Ok(Report {
+    let report = Report {
         workers: options.workers,
-        buffers,
+        buffers: settled.len(),
         generations,
         interfaces: interfaces(alloc, &last, &counts)?,
         nodes: nodes(alloc, &last, &counts)?,
         errors: errors(alloc, &last, &counts)?,
         packets: lines(alloc, &last, fates)?,
         traces: traces(alloc, &last, &trace)?,
-    })
+    };
+    Ok((report, RunEnd { rests, seat }))
 }

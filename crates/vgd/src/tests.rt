@@ -1,130 +1,18 @@
-//! Runs over folders and sinks in memory.
+//! Runs of one worker, and calls that are refused, over folders and sinks in memory.
 
+use crate::memory_runs::{
+    EAST, FRAME, Frame, HEADER, RUN, WIRE, bytes_of, run_over, savefile, savefile_at,
+};
 use crate::top::vgd_run;
 use std::alloc::{AllocError, Global};
 use std::num::NonZeroUsize;
 use std::process::Abort;
+use std::sync::Wait;
 use std::test::Fail;
-use vg_outside::{MemoryFolder, MemorySink, SureFolder, SureSink};
-
-/// A savefile of no packets: little-endian, microseconds, version 2.4, snaplen 262,144, Ethernet.
-const HEADER: [u8; 24] = [
-    0xd4, 0xc3, 0xb2, 0xa1, 2, 0, 4, 0, 0, 0, 0, 0, 0, 0, 0, 0, 0, 0, 4, 0, 1, 0, 0, 0,
-];
-
-/// The words of a run.
-const RUN: [&str; 4] = ["run", "c", "s", "t"];
-
-/// A frame by its first bytes in hexadecimal digits, and its length: zero bytes follow, or it is cut.
-type Frame<'a> = (&'a str, u32);
-
-/// A frame from 192.0.2.1 to 10.1.2.3, of a datagram with no data.
-const FRAME: Frame<'static> = (
-    "02fe00000000 020000000001 0800 4500001400000000 4011acd4 c0000201 0a010203",
-    34,
-);
-
-/// The script that sends each IPv4 frame straight to the interface.
-const WIRE: &[u8] = b"arc ethernet-input ip4 interface-tx\n";
-
-/// The script with one neighbor, to which all goes.
-const EAST: &[u8] =
-    b"adjacency east interface pg0 dst 02:00:00:00:00:09\nroute 0.0.0.0/0 via east\n";
-
-/// The bytes of a text in hexadecimal digits; all else in it says nothing.
-fn bytes_of(alloc: Global, text: &str) -> Result<Vec<u8>, AllocError> {
-    let mut bytes = Vec::new(alloc);
-    let mut high: Option<u8> = None;
-    for digit in text.as_bytes() {
-        let value = match *digit {
-            b'0'..=b'9' => *digit - b'0',
-            b'a'..=b'f' => *digit - b'a' + 10,
-            _ => continue,
-        };
-        high = match high {
-            Some(high) => {
-                bytes.push(high << 4 | value)?;
-                None
-            }
-            None => Some(value),
-        };
-    }
-    Ok(bytes)
-}
-
-/// The savefile of these frames, at time 0.
-fn savefile(alloc: Global, frames: &[Frame<'_>]) -> Result<Vec<u8>, AllocError> {
-    let mut file = HEADER.to_vec(alloc)?;
-    for (text, len) in frames {
-        let bytes = bytes_of(alloc, text)?;
-        file.extend_from_slice(&[0; 8])?;
-        file.extend_from_slice(&len.to_le_bytes())?;
-        file.extend_from_slice(&len.to_le_bytes())?;
-        for place in 0..*len as usize {
-            file.push(bytes.get(place).copied().unwrap_or(0))?;
-        }
-    }
-    Ok(file)
-}
-
-/// The savefile of a frame, once for each of these times in microseconds, all below a second.
-fn savefile_at(
-    alloc: Global,
-    nanos: bool,
-    frame: Frame<'_>,
-    times: &[u32],
-) -> Result<Vec<u8>, AllocError> {
-    let mut file = HEADER.to_vec(alloc)?;
-    if nanos {
-        file[0] = 0x4d;
-        file[1] = 0x3c;
-    }
-    let (text, len) = frame;
-    let bytes = bytes_of(alloc, text)?;
-    for time in times {
-        file.extend_from_slice(&[0; 4])?;
-        file.extend_from_slice(&time.to_le_bytes())?;
-        file.extend_from_slice(&len.to_le_bytes())?;
-        file.extend_from_slice(&len.to_le_bytes())?;
-        for place in 0..len as usize {
-            file.push(bytes.get(place).copied().unwrap_or(0))?;
-        }
-    }
-    Ok(file)
-}
-
-/// What a run did: its status, and what the sink and the folder hold behind it.
-#[derive(Drop)]
-struct Ran {
-    status: u8,
-    printed: Vec<u8>,
-    tx: Option<Vec<u8>>,
-}
-
-/// Runs over these files.
-fn run_over(
-    alloc: Global,
-    words: &[&str],
-    capture: &[u8],
-    script: &[u8],
-) -> Result<Ran, AllocError> {
-    let mut folder = SureFolder::new(alloc);
-    folder.add("c", capture)?;
-    folder.add("s", script)?;
-    let mut out = SureSink::new(alloc);
-    let status = vgd_run(alloc, words, &mut folder, &mut out);
-    Ok(Ran {
-        status,
-        printed: out.written().to_vec(alloc)?,
-        tx: match folder.file("t") {
-            Some(tx) => Some(tx.to_vec(alloc)?),
-            None => None,
-        },
-    })
-}
+use vg_outside::{MemoryFolder, MemorySink, OpenGate, SureFolder};
 
 /// A run over these frames transmits those, and prints this report.
-fn assert_done<R: Abort + AllocGlobal>(
+fn assert_done<R: Abort + Wait + AllocGlobal>(
     rt: &R,
     script: &[u8],
     frames: &[Frame<'_>],
@@ -133,7 +21,7 @@ fn assert_done<R: Abort + AllocGlobal>(
 ) -> Result<(), Fail> {
     let alloc = rt.alloc();
     let capture = savefile(alloc, frames)?;
-    let ran = run_over(alloc, &RUN, capture.as_slice(), script)?;
+    let ran = run_over(rt, &RUN, capture.as_slice(), script)?;
     assert_eq!(rt; ran.printed.as_slice(), report.as_bytes());
     assert_eq!(rt; ran.status, 0);
     assert_eq!(rt; ran.tx.ok_or("no savefile")?, savefile(alloc, sent)?);
@@ -141,7 +29,7 @@ fn assert_done<R: Abort + AllocGlobal>(
 }
 
 /// A refused run has this status and prints this line, and saves nothing.
-fn assert_refused<R: Abort + AllocGlobal>(
+fn assert_refused<R: Abort + Wait + AllocGlobal>(
     rt: &R,
     words: &[&str],
     capture: &[u8],
@@ -149,10 +37,11 @@ fn assert_refused<R: Abort + AllocGlobal>(
     status: u8,
     line: &str,
 ) -> Result<(), Fail> {
-    let ran = run_over(rt.alloc(), words, capture, script)?;
+    let ran = run_over(rt, words, capture, script)?;
     assert_eq!(rt; ran.printed.as_slice(), line.as_bytes());
     assert_eq!(rt; ran.status, status, "{line}");
     assert!(rt; ran.tx.is_none());
+    assert!(rt; ran.ran.is_none());
     Ok(())
 }
 
@@ -391,7 +280,7 @@ fn a_route_drops_from_its_time_on(rt: HostRuntime) -> Result<(), Fail> {
     let script = b"adjacency east interface pg0 dst 02:00:00:00:00:09\nroute 0.0.0.0/0 via east\n\
         at 1000\nroute 0.0.0.0/0 drop\nend\n";
     let capture = savefile_at(alloc, false, FRAME, &[0, 999, 1000, 500])?;
-    let ran = run_over(alloc, &RUN, capture.as_slice(), script)?;
+    let ran = run_over(&rt, &RUN, capture.as_slice(), script)?;
     let report = "vgd report 1\nworkers 1\nbuffers 4096\ngenerations 2\npackets 4\n\
         interface 0 pg0 tx 2\nnode 0 pg-input 4\nnode 1 handoff-dequeue 0\nnode 2 ethernet-input 4\n\
         node 3 ip4-input 4\nnode 4 ip4-lookup 4\nnode 5 ip4-rewrite 2\nnode 6 interface-output 2\n\
@@ -425,7 +314,7 @@ fn a_route_flaps(rt: HostRuntime) -> Result<(), Fail> {
         "768",
         "t",
     ];
-    let ran = run_over(alloc, &words, capture.as_slice(), script)?;
+    let ran = run_over(&rt, &words, capture.as_slice(), script)?;
     let report = "vgd report 1\nworkers 1\nbuffers 768\ngenerations 5\npackets 4\n\
         interface 0 pg0 tx 2\nnode 0 pg-input 4\nnode 1 handoff-dequeue 0\nnode 2 ethernet-input 4\n\
         node 3 ip4-input 4\nnode 4 ip4-lookup 4\nnode 5 ip4-rewrite 2\nnode 6 interface-output 2\n\
@@ -460,7 +349,7 @@ fn nanoseconds_stay_nanoseconds(rt: HostRuntime) -> Result<(), Fail> {
             00000001 3b9ac9ff 00000022 0000003c \
             02fe00000000 020000000001 0800 4500001400000000 4011acd4 c0000201 0a010203",
     )?;
-    let ran = run_over(alloc, &RUN, capture.as_slice(), EAST)?;
+    let ran = run_over(&rt, &RUN, capture.as_slice(), EAST)?;
     assert_eq!(rt; ran.status, 0);
     let tx = bytes_of(
         alloc,
@@ -473,13 +362,16 @@ fn nanoseconds_stay_nanoseconds(rt: HostRuntime) -> Result<(), Fail> {
 
 #[test]
 fn faulty_words_are_usage(rt: HostRuntime) -> Result<(), Fail> {
-    let faulty: [&[&str]; 10] = [
+    let faulty: [&[&str]; 13] = [
         &[],
         &["run", "c", "s"],
         &["run", "c", "s", "t", "u"],
         &["run", "--workers", "9", "c", "s", "t"],
         &["run", "--queue", "1", "--queue", "1", "c", "s", "t"],
         &["run", "--buffers", "511", "c", "s", "t"],
+        &["run", "--workers", "2", "--buffers", "767", "c", "s", "t"],
+        &["run", "--turns", "c", "s", "t"],
+        &["load", "0", "0", "1"],
         &["--help"],
         &["load", "c", "s", "t"],
         &["run", "", "s", "t"],
@@ -576,7 +468,7 @@ fn faulty_scripts_are_refused(rt: HostRuntime) -> Result<(), Fail> {
 
 #[test]
 fn a_comment_may_hold_any_bytes(rt: HostRuntime) -> Result<(), Fail> {
-    let ran = run_over(rt.alloc(), &RUN, &HEADER, b"# \xff")?;
+    let ran = run_over(&rt, &RUN, &HEADER, b"# \xff")?;
     assert_eq!(rt; ran.status, 0);
     assert_eq!(rt; ran.tx.ok_or("no savefile")?.as_slice(), HEADER.as_slice());
     Ok(())
@@ -629,11 +521,15 @@ fn one_more_than_may_be_is_refused(rt: HostRuntime) -> Result<(), Fail> {
 }
 
 /// A run with so many traces prints these lines before the last line of the report.
-fn assert_traced<R: Abort + AllocGlobal>(rt: &R, trace: &str, lines: &str) -> Result<(), Fail> {
+fn assert_traced<R: Abort + Wait + AllocGlobal>(
+    rt: &R,
+    trace: &str,
+    lines: &str,
+) -> Result<(), Fail> {
     let alloc = rt.alloc();
     let capture = savefile(alloc, &[FRAME, FRAME, ARP])?;
     let words = ["run", "--trace", trace, "c", "s", "t"];
-    let ran = run_over(alloc, &words, capture.as_slice(), WIRE)?;
+    let ran = run_over(rt, &words, capture.as_slice(), WIRE)?;
     let before = REPORT.strip_suffix("end\n").ok_or("no end")?;
     let report = format!(in alloc; "{before}{lines}end\n")?;
     assert_eq!(rt; ran.printed.as_slice(), report.as_str().as_bytes());
@@ -664,7 +560,7 @@ fn the_first_packets_are_traced(rt: HostRuntime) -> Result<(), Fail> {
 }
 
 /// A run over a folder whose call of this number fails has this status and prints this line.
-fn assert_fails<R: Abort + AllocGlobal>(
+fn assert_fails<R: Abort + Wait + AllocGlobal>(
     rt: &R,
     failing: u64,
     status: u8,
@@ -675,8 +571,9 @@ fn assert_fails<R: Abort + AllocGlobal>(
     folder.add("c", &HEADER)?;
     folder.add("s", WIRE)?;
     let mut out = MemorySink::new(alloc, Vec::new(alloc), None);
-    let answer = vgd_run(alloc, &RUN, &mut folder, &mut out);
-    assert_eq!(rt; answer, status, "{line}");
+    let answer = vgd_run(rt, alloc, &RUN, &mut folder, &mut out, &OpenGate);
+    assert_eq!(rt; answer.status, status, "{line}");
+    assert!(rt; answer.ran.is_none());
     assert_eq!(rt; out.written(), line.as_bytes());
     assert_eq!(rt; folder.file("c"), Some(HEADER.as_slice()));
     assert!(rt; folder.file("t").is_none());
@@ -692,7 +589,7 @@ fn failed_loads_and_saves_are_told(rt: HostRuntime) -> Result<(), Fail> {
 }
 
 /// A run over a sink that takes so many bytes a call, and whose call of this number fails, has printed so many bytes.
-fn assert_front<R: Abort + AllocGlobal>(
+fn assert_front<R: Abort + Wait + AllocGlobal>(
     rt: &R,
     most: usize,
     failing: u64,
@@ -703,8 +600,9 @@ fn assert_front<R: Abort + AllocGlobal>(
     folder.add("c", savefile(alloc, &[FRAME, FRAME, ARP])?.as_slice())?;
     folder.add("s", WIRE)?;
     let mut out = MemorySink::new(alloc, vec![in alloc; failing]?, NonZeroUsize::new(most));
-    let status = vgd_run(alloc, &RUN, &mut folder, &mut out);
-    assert_eq!(rt; status, 7);
+    let done = vgd_run(rt, alloc, &RUN, &mut folder, &mut out, &OpenGate);
+    assert_eq!(rt; done.status, 7);
+    assert!(rt; done.ran.is_none());
     assert_eq!(rt; Some(out.written()), REPORT.as_bytes().get(..printed));
     assert_eq!(rt; folder.file("t").ok_or("no savefile")?.len(), 124);
     Ok(())

@@ -1,5 +1,5 @@
 use Rattle.std.proofs.Common.{◌≡◌, map, take}
-use Rattle.vgd.specs.Output.{node_name}
+use Rattle.vg_check.specs.Output.{node_name}
 use Rattle.vgd.proofs.reporting.names.Given as goal
 
 abbrev pub invariant-loop-node : goal.invariant-loop-node

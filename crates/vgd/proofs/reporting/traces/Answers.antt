@@ -1,7 +1,7 @@
 use Rattle.std.proofs.Common.{◌≡◌, ℕ, zero, suc, ◌<◌, List, [], ◌∷◌, length, map, take, get_or, refl, sym, ap, subst, ◌∙◌, arith}
 use Rattle.std.specs.List.{AllByRecursion}
 use Rattle.std.proofs.lemmas.List.{take_all}
-use Rattle.vgd.specs.Output.{node_name}
+use Rattle.vg_check.specs.Output.{node_name}
 use Rattle.vgd.proofs.reporting.traces.Goals as goal
 
 -- what holds of each part holds of that of one element

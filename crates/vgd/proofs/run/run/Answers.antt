@@ -1,17 +1,21 @@
 use Rattle.std.proofs.Common.{◌≡◌, ◌∙◌, ap, subst, sym, inr, refl}
-use Rattle.std.specs.Prelude.{Some, option_map}
+use Rattle.std.specs.Prelude.{Some, option_map, unwrap_or, []}
 use Rattle.vg_outside.specs.Files.{HoldsBytes, SameElsewhere, Rose}
+use Rattle.vg_dispatch.specs.Progress.{AreInRange}
+use Rattle.vg_engine.specs.Orders.{AreTurns}
 use Rattle.vg_words.specs.Command.{Run, texts}
 use Rattle.vg_words.specs.Shown.{run_shown}
+use Rattle.vg_words.proofs.RangeLemmas.{runs-in_range}
 use Rattle.vgd.specs.declared.refusals.Refusal.TheVariants as refusals
 use Rattle.vgd.specs.Command.{run_asked}
+use Rattle.vgd.specs.Dues.{AreResultsOf}
+use Rattle.vgd.specs.Files.{bytes_of}
 use Rattle.vgd.specs.Run.{Call}
 use Rattle.vgd.specs.Stops.{IsRefusedFor}
-use Rattle.vg_words.proofs.RangeLemmas.{runs-in_range}
-use Rattle.vg_dispatch.specs.Progress.{AreInRange}
 use Rattle.vgd.proofs.PrintLemmas.{rose_later}
 use Rattle.vgd.proofs.RunLemmas.{refused_read, accepted_read, stopped_due, done_due, save_fault}
-use Rattle.vgd.proofs.WordLemmas.{runnable}
+use Rattle.vgd.proofs.TurnLemmas.{are_turns}
+use Rattle.vgd.proofs.WordLemmas.{in_range}
 use Rattle.vgd.proofs.run.run.Goals as goal
 
 pub returns-in-Err-read_files-clause-due : goal.returns-in-Err-read_files-clause-due
@@ -25,23 +29,24 @@ returns-in-Err-read_files-clause-due g c =
     } in
     let run : Run = run_shown c.in-Some.run' in
     let is : run_asked (texts c.args.words.now) ≡ Some run = sym c.in_ok-run.ensures ∙ ap (option_map run_shown) c.in-Some.is in
-    stopped_due call c.in-Err-read_files.stop (IsRefusedFor c.in-Ok.files.capture c.in-Ok.files.script) c.stopped-in-Err-read_files.result
+    stopped_due call c.in-Err-read_files.stop (IsRefusedFor run.workers (bytes_of c.in-Ok.files)) c.stopped-in-Err-read_files.result
     c.stopped-in-Err-read_files.ensures c.in-Err-read_files.ensures.stop
-    (λ refusal h. refused_read call run c.in-Ok.files.capture c.in-Ok.files.script refusal is c.in-Ok.ensures.files h c.load_files.ensures.same)
+    (λ refusal h. refused_read call run (bytes_of c.in-Ok.files) refusal is c.in-Ok.ensures.files h c.load_files.ensures.same)
 
 pub returns-in-Ok-save-clause-due : goal.returns-in-Ok-save-clause-due
 returns-in-Ok-save-clause-due g c =
     let run : Run = run_shown c.in-Some.run' in
     let is : run_asked (texts c.args.words.now) ≡ Some run = sym c.in_ok-run.ensures ∙ ap (option_map run_shown) c.in-Some.is in
-    let saved : HoldsBytes (g.F.Folder.contents c.save.new.self) c.in-Some.run'.tx.now c.in_ok-tx.field-0.tx =
+    let results = c.in_ok-tx.field-0 in
+    let saved : HoldsBytes (g.F.Folder.contents c.save.new.self) c.in-Some.run'.tx.now results.tx =
     subst (HoldsBytes (g.F.Folder.contents c.save.new.self) c.in-Some.run'.tx.now) c.as_slice.ensures c.in-Ok-save.ensures.ok in
     let others : SameElsewhere (g.F.Folder.contents c.args.folder.now) (g.F.Folder.contents c.save.new.self) c.in-Some.run'.tx.now =
     subst (λ o. SameElsewhere o (g.F.Folder.contents c.save.new.self) c.in-Some.run'.tx.now) c.load_files.ensures.same c.save.ensures.others in
-    let plan = c.in-Ok-read_files.input.plan in
-    done_due _ run c.in-Ok-read_files.input.capture plan.script plan.graphs c.in_ok-tx.ensures.report c.in_ok-tx.field-0.tx _
-    (accepted_read _ run c.in-Ok.files.capture c.in-Ok.files.script c.in-Ok-read_files.input is c.in-Ok.ensures.files c.in-Ok-read_files.ensures.read)
-    (c.in_ok-tx.ensures.output run (sym c.options_of.ensures))
-    c.in_ok-tx.ensures.is_text saved others
+    let input = c.in-Ok-read_files.input in
+    done_due _ run input results
+    (accepted_read _ run (bytes_of c.in-Ok.files) input is c.in-Ok.ensures.files c.in-Ok-read_files.ensures.read)
+    (subst (λ options. AreResultsOf input.plan options input.capture results) c.options_of.ensures c.in_ok-tx.ensures)
+    saved others
 
 pub returns-clause-due : goal.returns-clause-due
 returns-clause-due g c =
@@ -51,18 +56,29 @@ returns-clause-due g c =
     subst (λ o. SameElsewhere o (g.F.Folder.contents c.save.new.self) c.in-Some.run'.tx.now) c.load_files.ensures.same c.save.ensures.others in
     let fault : Rose (g.F.Folder.faults c.args.folder.now c.in-Some.run'.tx.now) (g.F.Folder.faults c.save.new.self c.in-Some.run'.tx.now) =
     rose_later _ (g.F.Folder.faults c.load_files.new.folder c.in-Some.run'.tx.now) _ (c.load_files.ensures.later c.in-Some.run'.tx.now) c.in-Err-save.ensures.failed in
-    let plan = c.in-Ok-read_files.input.plan in
+    let input = c.in-Ok-read_files.input in
     inr (
-      refusals.Save c.in-Some.run'.tx,
-      c.in_ok-not_saved.ensures.status,
-      c.in_ok-not_saved.ensures.text,
-      save_fault _ run c.in-Some.run'.tx c.in-Ok-read_files.input.capture plan.script plan.graphs refl
-          (accepted_read _ run c.in-Ok.files.capture c.in-Ok.files.script c.in-Ok-read_files.input is c.in-Ok.ensures.files c.in-Ok-read_files.ensures.read)
-          fault others,
+      c.in_ok-not_saved.ensures.ran,
+      (
+        refusals.Save c.in-Some.run'.tx,
+        c.in_ok-not_saved.ensures.status,
+        c.in_ok-not_saved.ensures.text,
+        save_fault _ run c.in-Some.run'.tx input refl
+            (accepted_read _ run (bytes_of c.in-Ok.files) input is c.in-Ok.ensures.files c.in-Ok-read_files.ensures.read) fault others,
+      ),
     )
 
 pub forward-requires-clause-options : goal.forward-requires-clause-options
-forward-requires-clause-options g c =
+forward-requires-clause-options g c κs within =
     let run : Run = run_shown c.in-Some.run' in
     let is : run_asked (texts c.args.words.now) ≡ Some run = sym c.in_ok-run.ensures ∙ ap (option_map run_shown) c.in-Some.is in
-    subst AreInRange (sym c.options_of.ensures) (runnable runs-in_range (texts c.args.words.now) run is).range
+    subst AreInRange (sym c.options_of.ensures) (in_range runs-in_range (texts c.args.words.now) run is)
+
+pub forward-requires-clause-turns : goal.forward-requires-clause-turns
+forward-requires-clause-turns g c κs within =
+    let run : Run = run_shown c.in-Some.run' in
+    let input = c.in-Ok-read_files.input in
+    let read = c.in-Ok-read_files.ensures.read in
+    let turns : AreTurns run.workers (unwrap_or c.in-Ok.files.turns []) = are_turns run.workers (unwrap_or c.in-Ok.files.turns []) read.steps read.are_turns in
+    let kept : AreTurns run.workers (unwrap_or input.turns []) = subst (λ bytes. AreTurns run.workers (unwrap_or bytes [])) (sym c.in-Ok-read_files.ensures.turns) turns in
+    subst (λ options. AreTurns options.workers (unwrap_or input.turns [])) (sym c.options_of.ensures) kept

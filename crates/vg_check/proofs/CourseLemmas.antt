@@ -1,0 +1,283 @@
+-- Journeys over several workers: how many legs they have and on which workers, how many visits, and how they end.
+use Rattle.std.proofs.Common.{◌≡◌, ◌≢◌, ℕ, zero, suc, ◌+◌, ◌*◌, ◌<◌, ◌≤◌, Bool, true, false, List, [], ◌∷◌, ◌++◌, length, take, refl, subst, arith, length-append}
+use Rattle.std.specs.Prelude.{Option, Some, None, option_map, unwrap_or, not, nat_lt, slice_get, if◌then◌else◌, ◌||◌, ◌==◌, ◌%◌}
+use Rattle.std.specs.List.{AllByRecursion}
+use Rattle.std.proofs.Math.Nat.{mod-lt}
+use Rattle.std.proofs.lemmas.Bool.{eqb-false}
+use Rattle.std.proofs.lemmas.Option.{none-some, same_Some}
+use Rattle.vg_model.specs.declared.kinds.Kind.{Kind}
+use Rattle.vg_model.specs.declared.kinds.Kind.TheVariants as kinds
+use Rattle.vg_model.specs.declared.kinds.DropError.{DropError}
+use Rattle.vg_model.specs.declared.kinds.DropError.TheVariants as errors
+use Rattle.vg_model.specs.declared.kinds.Step.{Step}
+use Rattle.vg_model.specs.declared.kinds.Step.TheVariants as steps
+use Rattle.vg_model.specs.declared.kinds.Adjacency.{Adjacency}
+use Rattle.vg_model.specs.declared.kinds.Interface.{Interface}
+use Rattle.vg_model.specs.declared.routes.RouteTo.{RouteTo}
+use Rattle.vg_model.specs.declared.routes.RouteTo.TheVariants as routes
+use Rattle.vg_model.specs.declared.fates.Leg.{Leg}
+use Rattle.vg_model.specs.Bytes.{number16_at}
+use Rattle.vg_model.specs.Header.{verifies}
+use Rattle.vg_model.specs.Packet.{Packet, fresh}
+use Rattle.vg_model.specs.Graph.{Graph, arc, kind_at, pg_input, handoff_dequeue}
+use Rattle.vg_model.specs.Hash.{target_worker}
+use Rattle.vg_model.specs.Route.{best_route}
+use Rattle.vg_model.specs.Visit.{Visit, is_foreign, transmit_interface, dropped, next, header_fault, ip4_input, forwarded, over_interface, over_adjacency, visit_of, ip4_visit, datagram, destination, adjacency_of, version, header_len, total_len, time_to_live}
+use Rattle.vg_model.specs.Leg.{Outcome, Sent, Dropped, Handed, Way, Move, Onward, Over, handed, move_of, joined, after_visit, leg_within, most_legs, first_slot, ends_at}
+use Rattle.vg_model.specs.Journey.{Course, started, first_leg, leg_from, legs_from, handed_over, last_leg, then_course, longest_packet}
+use Rattle.vg_model.proofs.Journeys.{map_some, then_some}
+use Rattle.vg_model.proofs.LegEnds.{all_at}
+use Rattle.vg_plan.specs.Plan.{IsGeneration}
+
+-- ---- no node drops a packet by congestion: only a full queue does
+
+-- a step that is no drop by congestion
+abbrev pub IsOwnStep : Step → Type 0
+IsOwnStep (steps.Dropped error) = error ≢ errors.Congestion
+IsOwnStep (steps.Next slot) = Unit {0}
+IsOwnStep (steps.Tx interface) = Unit {0}
+IsOwnStep (steps.Hand hash) = Unit {0}
+
+-- visits of which none drops a packet by congestion
+abbrev pub NeverCongests : Visit → Type 0
+NeverCongests visit = (g : Graph) (n : ℕ) (p : Packet) → IsOwnStep (visit g n p).0
+
+-- the steps of nodes, by their tests
+ethernet_by : (p : Packet) (short foreign other_type : Bool)
+    → IsOwnStep (if short then dropped errors.Short p else if foreign then dropped errors.WrongMac p else if other_type then dropped errors.UnknownType p else next p).0
+ethernet_by p true b c = λ e. cc
+ethernet_by p false true c = λ e. cc
+ethernet_by p false false true = λ e. cc
+ethernet_by p false false false = tt
+
+unchecked_by : (p : Packet) (unchecked : Bool) (after : Step × Packet) → IsOwnStep after.0 → IsOwnStep (if unchecked then dropped errors.Unchecked p else after).0
+unchecked_by p true after h = λ e. cc
+unchecked_by p false after h = h
+
+sent_by : (p after : Packet) (expired long : Bool) → IsOwnStep (if expired then dropped errors.TtlExpired p else if long then dropped errors.MtuExceeded p else next after).0
+sent_by p after true b = λ e. cc
+sent_by p after false true = λ e. cc
+sent_by p after false false = tt
+
+output_by : (p : Packet) (up : Bool) → IsOwnStep (if up then next p else dropped errors.InterfaceDown p).0
+output_by p true = tt
+output_by p false = λ e. cc
+
+-- a fault that is no congestion
+abbrev IsOwnFault : Option DropError → Type 0
+IsOwnFault None = Unit {0}
+IsOwnFault (Some error) = error ≢ errors.Congestion
+
+-- the first fault of a header is none of a queue
+fault_by : (short version header total checksum zero_ttl : Bool)
+    → IsOwnFault (if short then Some errors.Short else if version then Some errors.BadVersion else if header then Some errors.BadHeaderLength
+    else if total then Some errors.BadLength else if checksum then Some errors.BadChecksum else if zero_ttl then Some errors.TtlZero else None)
+fault_by true b c d e f = λ e. cc
+fault_by false true c d e f = λ e. cc
+fault_by false false true d e f = λ e. cc
+fault_by false false false true e f = λ e. cc
+fault_by false false false false true f = λ e. cc
+fault_by false false false false false true = λ e. cc
+fault_by false false false false false false = tt
+
+own_fault : (d : List ℕ) → IsOwnFault (header_fault d)
+own_fault d =
+    fault_by (nat_lt (length d) 20) (not (version d == 4)) (nat_lt (header_len d) 20 || nat_lt (length d) (header_len d))
+    (nat_lt (total_len d) (header_len d) || nat_lt (length d) (total_len d)) (not (verifies (take (header_len d) d))) (time_to_live d == 0)
+
+own_input : (p : Packet) → IsOwnStep (ip4_input p).0
+own_input p = by_fault (header_fault (datagram p)) (own_fault (datagram p))
+  where
+    by_fault : (o : Option DropError) → IsOwnFault o → IsOwnStep (unwrap_or (option_map (λ error. dropped error p) o) (next (record p { checked = true }))).0
+    by_fault None h = tt
+    by_fault (Some error) h = h
+
+own_forwarded : (o : Option RouteTo) (p : Packet) → IsOwnStep (forwarded o p).0
+own_forwarded None p = λ e. cc
+own_forwarded (Some routes.Drop) p = λ e. cc
+own_forwarded (Some routes.Local) p = λ e. cc
+own_forwarded (Some (routes.Via a)) p = tt
+
+own_over : (g : Graph) (o : Option Adjacency) (p : Packet) → IsOwnStep (over_adjacency g o p).0
+own_over g None p = λ e. cc
+own_over g (Some adjacency) p = by_interface (slice_get g.interfaces adjacency.interface)
+  where
+    by_interface : (o : Option Interface) → IsOwnStep (over_interface adjacency o p).0
+    by_interface None = λ e. cc
+    by_interface (Some interface) = sent_by p _ (time_to_live (datagram p) == 1) (nat_lt interface.mtu (total_len (datagram p)))
+
+own_kind : (kind : Kind) (g : Graph) (p : Packet) → IsOwnStep (visit_of kind g p).0
+own_kind kinds.EthernetInput g p =
+    ethernet_by p (nat_lt (length p.bytes) 14) (unwrap_or (option_map (λ i. is_foreign i p.bytes) (slice_get g.interfaces 0)) true) (not (number16_at p.bytes 12 == 0x0800))
+own_kind kinds.Ip4Input g p = own_input p
+own_kind kinds.Ip4Lookup g p = unchecked_by p (not p.checked) (forwarded (best_route g.routes (destination (datagram p))) p) (own_forwarded (best_route g.routes (destination (datagram p))) p)
+own_kind kinds.Ip4Rewrite g p = unchecked_by p (not p.checked) (over_adjacency g (adjacency_of g p) p) (own_over g (adjacency_of g p) p)
+own_kind kinds.InterfaceOutput g p = output_by p (unwrap_or (option_map (λ i. i.up) (slice_get g.interfaces (transmit_interface g p))) true)
+own_kind kinds.InterfaceTx g p = tt
+own_kind kinds.Pass g p = tt
+own_kind (kinds.WorkerHandoff hash) g p = tt
+own_kind kinds.ErrorDrop g p = λ e. cc
+own_kind kinds.PgInput g p = λ e. cc
+own_kind kinds.HandoffDequeue g p = λ e. cc
+
+-- the visits of the IPv4 kinds are such
+pub own_visit : NeverCongests ip4_visit
+own_visit g n p = by_kind (kind_at g n)
+  where
+    by_kind : (o : Option Kind) → IsOwnStep (unwrap_or (option_map (λ kind. visit_of kind g p) o) (dropped errors.Blackhole p)).0
+    by_kind None = λ e. cc
+    by_kind (Some kind) = own_kind kind g p
+
+-- ---- legs
+
+-- the end of a leg with this number: no drop by congestion, and handed over to a worker that is there, where the leg isn't the fourth
+abbrev IsOwnOutcome : (workers leg_number : ℕ) → Outcome → Type 0
+IsOwnOutcome workers leg_number (Sent interface) = Unit {0}
+IsOwnOutcome workers leg_number (Dropped node error) = error ≢ errors.Congestion
+IsOwnOutcome workers leg_number (Handed node worker) = (worker < workers) × (leg_number ≡ 4 → ⊥)
+
+abbrev IsOwnMove : (workers leg_number : ℕ) → Move → Type 0
+IsOwnMove workers leg_number (Onward to) = Unit {0}
+IsOwnMove workers leg_number (Over outcome) = IsOwnOutcome workers leg_number outcome
+
+own_handed : (g : Graph) (workers worker leg_number node target : ℕ) → target < workers → IsOwnMove workers leg_number (handed g worker leg_number node target)
+own_handed g workers worker leg_number node target within = by_test (target == worker) (leg_number == most_legs) refl
+  where
+    by_test : (here last : Bool) → leg_number == most_legs ≡ last
+        → IsOwnMove workers leg_number (if here then Onward (arc g node first_slot) else if last then Over (Dropped node errors.HandoffLimit) else Over (Handed node target))
+    by_test true last e = tt
+    by_test false true e = λ e. cc
+    by_test false false e = (within, eqb-false leg_number most_legs e)
+
+own_move : (g : Graph) (workers worker leg_number node : ℕ) (step : Step) → 0 < workers → IsOwnStep step → IsOwnMove workers leg_number (move_of g workers worker leg_number node step)
+own_move g workers worker leg_number node (steps.Next slot) some h = tt
+own_move g workers worker leg_number node (steps.Tx interface) some h = tt
+own_move g workers worker leg_number node (steps.Dropped error) some h = h
+own_move g workers worker leg_number node (steps.Hand hash) some h = own_handed g workers worker leg_number node (target_worker workers hash) (mod-lt hash some)
+
+-- a leg with such an end, of at least one visit and at most so many
+record IsOwnWay (workers leg_number most : ℕ) (way : Way) : Type 0 where
+  own : IsOwnOutcome workers leg_number way.outcome
+  some : 1 ≤ length way.visits
+  few : length way.visits ≤ most
+
+own_joined : (workers leg_number most node : ℕ) (p : Packet) (move : Move) (go_on : ℕ → Option Way) (way : Way) → IsOwnMove workers leg_number move
+    → ((to : ℕ) (rest : Way) → go_on to ≡ Some rest → IsOwnWay workers leg_number most rest) → joined node p move go_on ≡ Some way → IsOwnWay workers leg_number (suc most) way
+own_joined workers leg_number most node p (Over outcome) go_on way h later e =
+    let here : IsOwnWay workers leg_number (suc most) (ends_at node p outcome) = record { own = h; some = omega arith; few = omega arith } in
+    subst (IsOwnWay workers leg_number (suc most)) (same_Some _ _ e) here
+own_joined workers leg_number most node p (Onward None) go_on way h later e = absurd (none-some way e)
+own_joined workers leg_number most node p (Onward (Some to)) go_on way h later e =
+    let rest = map_some (after_visit node) (go_on to) way e in
+    let found = later to rest.0 rest.1 in
+    let few : length rest.0.visits ≤ most = found.few in
+    let here : IsOwnWay workers leg_number (suc most) (after_visit node rest.0) = record { own = found.own; some = omega arith; few = omega (arith, few) } in
+    subst (IsOwnWay workers leg_number (suc most)) rest.2 here
+
+module _ (visit : Visit) (never : NeverCongests visit) (workers : ℕ) (some : 0 < workers) where
+  own_within : (g : Graph) (worker leg_number visits node : ℕ) (p : Packet) (way : Way) → leg_within visit g workers worker leg_number visits node p ≡ Some way
+      → IsOwnWay workers leg_number visits way
+  own_within g worker leg_number zero node p way e = absurd (none-some way e)
+  own_within g worker leg_number (suc visits) node p way e =
+      own_joined workers leg_number visits node (visit g node p).1 (move_of g workers worker leg_number node (visit g node p).0)
+      (λ to. leg_within visit g workers worker leg_number visits to (visit g node p).1) way
+      (own_move g workers worker leg_number node (visit g node p).0 some (never g node p))
+      (λ to rest h. own_within g worker leg_number visits to (visit g node p).1 rest h) e
+
+  own_from : (g : Graph) (worker leg_number first via : ℕ) (p : Packet) (way : Way) → length g.nodes ≤ 64 → leg_from visit g workers worker leg_number first via p ≡ Some way
+      → IsOwnWay workers leg_number 65 way
+  own_from g worker leg_number first via p way nodes e =
+      let rest = map_some (after_visit first) _ way e in
+      let start = then_some _ (arc g via first_slot) rest.0 rest.1 in
+      let found = own_within g worker leg_number (length g.nodes) start.0 p rest.0 start.2 in
+      let few : length rest.0.visits ≤ length g.nodes = found.few in
+      let here : IsOwnWay workers leg_number 65 (after_visit first rest.0) = record { own = found.own; some = omega arith; few = omega (arith, few, nodes) } in
+      subst (IsOwnWay workers leg_number 65) rest.2 here
+
+  own_first : (g : Graph) (worker : ℕ) (p : Packet) (way : Way) → length g.nodes ≤ 64 → first_leg visit g workers worker p ≡ Some way → IsOwnWay workers 1 65 way
+  own_first g worker p way nodes e = by_length (nat_lt longest_packet (length p.bytes)) e
+    where
+      by_length : (long : Bool) → (if long then Some (ends_at pg_input p (Dropped pg_input errors.TooLong)) else leg_from visit g workers worker 1 pg_input pg_input p) ≡ Some way
+          → IsOwnWay workers 1 65 way
+      by_length true e =
+          let here : IsOwnWay workers 1 65 (ends_at pg_input p (Dropped pg_input errors.TooLong)) = record { own = λ e. cc; some = omega arith; few = omega arith } in
+          subst (IsOwnWay workers 1 65) (same_Some _ _ e) here
+      by_length false e = own_from g worker 1 pg_input pg_input p way nodes e
+
+-- ---- courses
+
+-- an end that is no drop by congestion, or a packet that is handed over
+abbrev pub IsOwnLast : Outcome → Type 0
+IsOwnLast (Sent interface) = Unit {0}
+IsOwnLast (Dropped node error) = error ≢ errors.Congestion
+IsOwnLast (Handed node worker) = Unit {0}
+
+own_last : (workers leg_number : ℕ) (o : Outcome) → IsOwnOutcome workers leg_number o → IsOwnLast o
+own_last workers leg_number (Sent interface) h = tt
+own_last workers leg_number (Dropped node error) h = h
+own_last workers leg_number (Handed node worker) h = tt
+
+-- from a leg with this number on: four legs in all at most, on workers that are there, with few visits
+pub record IsCourse (workers leg_number : ℕ) (course : Course) : Type 0 where
+  pub some : 1 ≤ length course.legs
+  pub few : leg_number + length course.legs ≤ 5
+  pub there : AllByRecursion (λ (leg : Leg). leg.worker < workers) course.legs
+  pub visited : 1 ≤ length course.visits
+  pub few_visits : length course.visits ≤ 65 * length course.legs
+  pub own : IsOwnLast course.outcome
+
+-- where a leg was handed over
+handed_within : (workers leg_number : ℕ) (o : Outcome) (from : ℕ × ℕ) → IsOwnOutcome workers leg_number o → handed_over o ≡ Some from → (from.1 < workers) × (leg_number ≡ 4 → ⊥)
+handed_within workers leg_number (Sent interface) from h e = absurd (none-some from e)
+handed_within workers leg_number (Dropped node error) from h e = absurd (none-some from e)
+handed_within workers leg_number (Handed node worker) from h e = subst (λ (f : ℕ × ℕ). (f.1 < workers) × (leg_number ≡ 4 → ⊥)) (same_Some _ _ e) h
+
+module _ (visit : Visit) (never : NeverCongests visit) (workers : ℕ) (some : 0 < workers) (graphs : List Graph) (sound : AllByRecursion IsGeneration graphs) where
+  courses : (worker leg_number generation : ℕ) (later : List ℕ) (o : Option Way) (course : Course) → worker < workers → leg_number ≤ 4
+      → ((way : Way) → o ≡ Some way → IsOwnWay workers leg_number 65 way) → legs_from visit graphs workers worker leg_number generation later o ≡ Some course → IsCourse workers leg_number course
+  courses worker leg_number generation [] None course within most is e = absurd (none-some course e)
+  courses worker leg_number generation (g ∷ later) None course within most is e = absurd (none-some course e)
+  courses worker leg_number generation [] (Some way) course within most is e =
+      let here = is way refl in
+      let few : length way.visits ≤ 65 = here.few in
+      let alone : IsCourse workers leg_number (last_leg (record { worker = worker; generation = generation }) way) = record {
+        some = omega arith;
+        few = omega (arith, most);
+        there = (within, tt);
+        visited = here.some;
+        few_visits = omega (arith, few);
+        own = own_last workers leg_number way.outcome here.own;
+      } in
+      subst (IsCourse workers leg_number) (same_Some _ _ e) alone
+  courses worker leg_number generation (g ∷ later) (Some way) course within most is e =
+      let here = is way refl in
+      let s1 = map_some (then_course (record { worker = worker; generation = generation }) way) _ course e in
+      let s2 = then_some _ (handed_over way.outcome) s1.0 s1.1 in
+      let s3 = then_some _ (slice_get graphs g) s1.0 s2.2 in
+      let on = handed_within workers leg_number way.outcome s2.0 here.own s2.1 in
+      let next : suc leg_number ≤ 4 = (let not_last = on.1 in omega (arith, most, not_last)) in
+      let nodes : length s3.0.nodes ≤ 64 = (all_at IsGeneration graphs g s3.0 s3.1 sound).few_nodes in
+      let rest = courses s2.0.1 (suc leg_number) g later (leg_from visit s3.0 workers s2.0.1 (suc leg_number) handoff_dequeue s2.0.0 way.packet) s1.0 on.0 next
+      (λ w f. own_from visit never workers some s3.0 s2.0.1 (suc leg_number) handoff_dequeue s2.0.0 way.packet w nodes f) s3.2 in
+      let visits : length (way.visits ++ s1.0.visits) ≡ length way.visits + length s1.0.visits = length-append way.visits s1.0.visits in
+      let few_here : length way.visits ≤ 65 = here.few in
+      let few_rest : length s1.0.visits ≤ 65 * length s1.0.legs = rest.few_visits in
+      let some_here : 1 ≤ length way.visits = here.some in
+      let few_legs : suc leg_number + length s1.0.legs ≤ 5 = rest.few in
+      let whole : IsCourse workers leg_number (then_course (record { worker = worker; generation = generation }) way s1.0) = record {
+        some = omega arith;
+        few = omega (arith, few_legs);
+        there = (within, rest.there);
+        visited = omega (arith, visits, some_here);
+        few_visits = omega (arith, visits, few_here, few_rest);
+        own = rest.own;
+      } in
+      subst (IsCourse workers leg_number) s1.2 whole
+
+  pub course_of : (number : ℕ) (bytes gs : List ℕ) (course : Course) → started visit graphs workers number bytes gs ≡ Some course → IsCourse workers 1 course
+  course_of number bytes [] course e = absurd (none-some course e)
+  course_of number bytes (g ∷ later) course e =
+      let s = then_some _ (slice_get graphs g) course e in
+      let nodes : length s.0.nodes ≤ 64 = (all_at IsGeneration graphs g s.0 s.1 sound).few_nodes in
+      courses (number % workers) 1 g later _ course (mod-lt number some) (omega arith)
+      (λ w f. own_first visit never workers some s.0 (number % workers) (fresh number bytes) w nodes f) s.2

@@ -1,0 +1,4 @@
+//! What a run puts out, as definitions and laws.
+#![tactic(auto)]
+
+pub mod laws;

@@ -1,0 +1,96 @@
+-- What a round of a worker does.
+use Rattle.std.specs.Prelude.{Bool, false, ◌≡◌, ℕ, ◌+◌, ◌*◌, ◌≤◌, ◌<◌, List, [], ◌++◌, length, Option, None, Some}
+use Rattle.std.specs.List.{sum_by, AllByRecursion}
+use Rattle.vg_model.specs.declared.fates.Fate.{Fate}
+use Rattle.vg_model.specs.Graph.{Graph}
+use Rattle.vg_pool.specs.Moves.{most_kept, wanted}
+use Rattle.vg_hands.specs.Handed.{IsHandFrame}
+use Rattle.vg_journeys.specs.Trips.{Run, Trip}
+use Rattle.vg_journeys.specs.Accounts.{HandoffFrame, Adds, frames_with, below as workers_below}
+use Rattle.vg_journeys.specs.Counts.{IsCountIn}
+use Rattle.vg_journeys.specs.Windows.{mark_behind}
+use Rattle.vg_dispatch.specs.declared.parcels.WorkerParcel.{WorkerParcel}
+use Rattle.vg_dispatch.specs.SentEntries.{sent_size}
+use Rattle.vg_dispatch.specs.Draws.{IsHandoff}
+use Rattle.vg_dispatch.specs.Queues.{Tries, frame_bytes, packets_in, bytes_in}
+use Rattle.vg_dispatch.specs.Outlets.{Outlet, outlet_with, most_in_round, IsTicked, Push, ArePushes, if_congested, dropped_in_all}
+use Rattle.vg_dispatch.specs.Workers.{WorkerSeat, WorkerBook, IsOther, intake_from, account_of}
+
+-- a frame that may be taken under this graph and this generation: it isn't of a later one, and a handoff node of the graph put it
+pub record MayTake (g : Graph) (generation : ℕ) (frame : HandoffFrame) : Type 0 where
+  pub kept : IsHandFrame frame
+  pub earlier : frame.generation ≤ generation
+  pub node : IsHandoff g frame.node
+
+-- of the frames that were taken of the workers below one
+abbrev pub before : (List HandoffFrame → ℕ) → (took : List (List HandoffFrame)) → (from : ℕ) → ℕ
+before of took from = sum_by (λ worker. of (frames_with worker took)) (workers_below from)
+
+-- A frame is within the log of a worker, where so many packets with so many bytes came in this round before it. N being the number of
+-- packets of the capture: the packets that the worker has ever taken are at most 3 N; the fates that it has logged, the packets of this
+-- round and its own packets that aren't drawn yet are at most N; and their bytes are at most those of the capture.
+pub record IsWithin (w : WorkerBook) (packets bytes : ℕ) (frame : HandoffFrame) : Type 0 where
+  pub taken : sum_by packets_in w.taken + packets + length frame.packets ≤ 3 * w.packets
+  pub fates : length w.log + packets + length frame.packets + w.own ≤ w.packets
+  pub bytes_most : sum_by sent_size w.sent + bytes + frame_bytes frame + w.left ≤ w.bytes
+
+-- a round may take this frame of a worker, where it took these of the workers below
+abbrev pub MayTakeFrom : Graph → (generation : ℕ) → WorkerBook → (took : List (List HandoffFrame)) → (from : ℕ) → HandoffFrame → Type 0
+MayTakeFrom g generation w took from frame = MayTake g generation frame × IsWithin w (before packets_in took from) (before bytes_in took from) frame
+
+-- the cache has no more buffers than it may keep, and each handoff has room for all that a round may bring
+abbrev pub IsOpen : WorkerBook → (handoffs : ℕ → Outlet) → Type 0
+IsOpen w handoffs = (w.cache.len ≤ most_kept) × ((to : ℕ) → IsOther w to → most_in_round w.options.workers ≤ (handoffs to).room)
+
+-- and no gate is closed
+abbrev pub MayDraw : WorkerBook → (handoffs : ℕ → Outlet) → Type 0
+MayDraw w handoffs = IsOpen w handoffs × ((to : ℕ) → IsOther w to → (handoffs to).closed ≡ false)
+
+-- A round under a graph and its generation, as far as this limit.
+pub record IsRoundOf (run : Run) (lossless : Bool) (g : Graph) (generation limit : ℕ) (old new : WorkerBook) : Type 0 where
+  -- first its handoffs tick
+  pub ticked : ℕ → Outlet
+  pub ticks : (to : ℕ) → IsTicked lossless (outlet_with to old.outlets) (ticked to)
+  -- then, where it is open, it tries one frame of each other worker, by rising number; or else it tries none
+  pub took : List (List HandoffFrame)
+  pub taken : (from : ℕ) → frames_with from new.taken ≡ frames_with from old.taken ++ frames_with from took
+  pub one : (from : ℕ) → length (frames_with from took) ≤ 1
+  pub may : (from : ℕ) → AllByRecursion (MayTake g generation) (frames_with from took)
+  pub tries : IsOpen old ticked → (from : ℕ) → IsOther old from → Tries (MayTakeFrom g generation old took from) (intake_from old from) (frames_with from took) (intake_from new from)
+  pub passes : (IsOpen old ticked → ⊥) → (from : ℕ) → IsOther old from → (frames_with from took ≡ []) × (intake_from new from ≡ intake_from old from)
+  -- its cache takes so many buffers of the pool, where it is empty
+  pub filled : ℕ
+  pub refill : filled ≤ wanted old.cache
+  pub cached : new.cache.taken ≡ old.cache.taken + filled
+  -- where it may draw, it draws its next packets below the limit, as many as the burst and the cache's buffers allow; or else none
+  pub draws : ℕ
+  pub burst : draws ≤ old.options.burst
+  pub buffers : draws ≤ old.cache.len + filled
+  pub mark : new.mark ≡ mark_behind old.options.workers old.mark draws
+  pub below : (k : ℕ) → k < draws → mark_behind old.options.workers old.mark k < limit
+  pub all : MayDraw old ticked → draws < old.options.burst → draws < old.cache.len + filled → limit ≤ new.mark
+  pub none : (MayDraw old ticked → ⊥) → draws ≡ 0
+  -- each packet that came goes through one leg, under this generation; it is logged, or stands in a frame that was accepted; nothing else
+  -- is logged, put, counted or noted
+  pub trips : List Trip
+  pub adds : Adds run (account_of old) (account_of new) trips
+  pub under : AllByRecursion (λ (trip : Trip). trip.generation ≡ generation) trips
+  pub counts : AllByRecursion (λ (trip : Trip). IsCountIn old.options.queue lossless old.put new.put trip.way.outcome trip.refused) trips
+  -- what it pushed to each other worker: frames that were accepted, and frames that came back
+  pub pushes : ℕ → List Push
+  pub made : (to : ℕ) → ArePushes old.options.queue lossless (frames_with to old.put) (ticked to) (pushes to) (frames_with to new.put) (outlet_with to new.outlets)
+  pub pushed : ℕ → List HandoffFrame
+  pub put : (to : ℕ) → frames_with to new.put ≡ frames_with to old.put ++ pushed to
+  -- the fates with a count are those of the packets of frames that came back, each with the count that came back with its frame
+  pub logged : List Fate
+  pub log : new.log ≡ old.log ++ logged
+  pub dropped : (count : Fate → ℕ) → sum_by (if_congested count) logged ≡ dropped_in_all count old.options.workers pushes
+
+-- a round under the parcel of a seat, up to this limit
+abbrev pub RoundsWith : Run → (lossless : Bool) → Option WorkerParcel → (limit : ℕ) → (old new : WorkerBook) → Type 0
+RoundsWith run lossless None limit old new = ⊥
+RoundsWith run lossless (Some parcel) limit old new = IsRoundOf run lossless parcel.fork.graph parcel.fork.generation limit old new
+
+abbrev pub RoundsAt : Run → (lossless : Bool) → Option WorkerSeat → (limit : ℕ) → (old new : WorkerBook) → Type 0
+RoundsAt run lossless None limit old new = ⊥
+RoundsAt run lossless (Some seat) limit old new = RoundsWith run lossless seat.parcel limit old new

@@ -1,0 +1,23 @@
+//! What a call answers.
+
+use vg_barrier::MainSeat;
+use vg_dispatch::WorkerParcel;
+use vg_engine::Rests;
+
+/// What a run leaves beside its files.
+#[derive(Drop)]
+pub struct RunEnd {
+    /// The queues between workers, closed: from each worker to each other, by the one and then by the other.
+    pub rests: Rests,
+    /// Main's seat at the barrier of the run.
+    pub seat: MainSeat<WorkerParcel>,
+}
+
+/// What a call answers.
+#[derive(Drop)]
+pub struct Done {
+    /// The exit status.
+    pub status: u8,
+    /// The end of the run, where one was done.
+    pub ran: Option<RunEnd>,
+}
