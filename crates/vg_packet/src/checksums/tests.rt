@@ -35,7 +35,8 @@ fn header(identification: u16, time_to_live: u8, checksum: u16) -> [u8; 20] {
 fn assert_lowered(rt: &impl Abort, mut header: [u8; 20], after: [u8; 20]) {
     assert!(rt; verify_header(&header), "{header:?}");
     assert!(rt; header[0] != 0 && header[8] >= 1, "{header:?}");
-    assert!(rt; lowered_ttl(&header) == after[8..12]);
+    let lowered = lowered_ttl(&header);
+    assert_eq!(rt; lowered, [after[8], after[9], after[10], after[11]]);
     lower_ttl(&mut header);
     assert_eq!(rt; header, after);
 }
