@@ -12,7 +12,7 @@ use Rattle.vg_script.specs.Events.{Event, events}
 use Rattle.vg_plan.specs.Plan.{Planned, IsPlan, EventsAreMade}
 
 -- a graph in front of others makes one list with them
-front_of : (g : Graph) (rest : Graphs) (graphs : List Graph) → in_front g rest ≡ Ok graphs → (others : List Graph) × (rest ≡ Ok others) × (graphs ≡ g ∷ others)
+pub front_of : (g : Graph) (rest : Graphs) (graphs : List Graph) → in_front g rest ≡ Ok graphs → (others : List Graph) × (rest ≡ Ok others) × (graphs ≡ g ∷ others)
 front_of g (Ok others) graphs e = (others, refl, cc)
 front_of g (Err refusal) graphs e = cc
 

@@ -6,3 +6,4 @@ pub mod TimesLemmas
 pub mod RunLemmas
 pub mod ProgressLemmas
 pub mod BookLemmas
+pub mod LeftLemmas

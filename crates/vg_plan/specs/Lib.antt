@@ -8,3 +8,4 @@ pub mod Front
 pub mod Run
 pub mod Progress
 pub mod Master
+pub mod Left

@@ -7,6 +7,7 @@
 
 mod books;
 mod events;
+mod generations;
 pub mod laws;
 pub mod masters;
 pub mod plans;
@@ -15,5 +16,6 @@ mod tests;
 mod windows;
 
 pub use books::Book;
+pub use generations::Generations;
 pub use masters::Master;
 pub use plans::Plan;

@@ -211,3 +211,17 @@ fn a_refused_group_changes_nothing(rt: HostRuntime) -> Result<(), Fail> {
     assert_eq!(rt; master.fib().routes().len(), 0);
     Ok(())
 }
+
+#[test]
+fn generations_come_one_after_the_other(rt: HostRuntime) -> Result<(), Fail> {
+    let plan = planned(rt.alloc(), FLAP)?;
+    let generations = Generations::of(rt.alloc(), &plan).map_err(|_| "no memory")?;
+    assert_eq!(rt;
+        generations.master().fib().find(ADDRESS),
+        Some(RouteTo::Via(0))
+    );
+    assert!(rt; plan.generations() == 5);
+    let later = generations.advance().map_err(|_| "no memory")?;
+    assert_eq!(rt; later.master().fib().find(ADDRESS), Some(RouteTo::Drop));
+    Ok(())
+}

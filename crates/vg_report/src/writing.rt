@@ -12,7 +12,7 @@ use vg_model::{Bytes, DropError, Leg, Memory, Name};
 
 // How many bytes the line of a packet mostly has at most, and how many the lines that aren't of packets. A longer text makes the
 // buffer grow.
-const ROOM_OF_A_LINE: usize = 64;
+const ROOM_OF_A_LINE: usize = 48;
 
 const ROOM_OF_THE_OTHERS: usize = 16_384;
 
