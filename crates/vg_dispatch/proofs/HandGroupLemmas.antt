@@ -152,16 +152,6 @@ handing_skip s node slots lossless old old_cache old_put old_hand k w cache put 
   ];
 }
 
-set_none : (groups : List (List ℕ)) (k : ℕ) → get_or groups k [] ≡ [] → set groups k [] ≡ groups
-set_none [] k none = refl
-set_none (g ∷ gs) zero none = ap (λ x. x ∷ gs) (sym none)
-set_none (g ∷ gs) (suc k) none = ap (λ xs. g ∷ xs) (set_none gs k none)
-
-pub handing_empty : (s : Setting) (node slots : ℕ) (lossless : Bool) (old : Work) (old_cache : CacheBook) (old_put : List (List HandoffFrame)) (old_hand : List (ℕ × Step)) (k : ℕ) (w : Work) (cache : CacheBook) (put : List (List HandoffFrame)) (groups : List (List ℕ)) → get_or groups k [] ≡ []
-    → IsHandingAll s node slots lossless old old_cache old_put old_hand k w cache put groups → IsHandingAll s node slots lossless old old_cache old_put old_hand (k + 1) w cache put (set groups k [])
-handing_empty s node slots lossless old old_cache old_put old_hand k w cache put groups none h =
-    subst (λ gs. IsHandingAll s node slots lossless old old_cache old_put old_hand (k + 1) w cache put gs) (sym (set_none groups k none)) (handing_skip s node slots lossless old old_cache old_put old_hand k w cache put groups none h)
-
 -- this one is in hand
 pub handing_steady : (s : Setting) (node slots : ℕ) (lossless : Bool) (old : Work) (old_cache : CacheBook) (old_put : List (List HandoffFrame)) (old_hand : List (ℕ × Step)) (k : ℕ) (w : Work) (cache : CacheBook) (put : List (List HandoffFrame)) (groups : List (List ℕ)) (group : List ℕ) → k < length groups
     → get_or groups k [] ≡ group → IsHandingAll s node slots lossless old old_cache old_put old_hand k w cache put groups → IsSteady s node w (handed_to k group ++ grouped 0 (set groups k []))

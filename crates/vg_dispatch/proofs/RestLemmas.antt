@@ -185,7 +185,7 @@ rest_after s slots lossless packets bytes came own left n drawn weight new_left 
       listed = (let h = rest.listed in let more = sent_most over.settled in
           let e : length (sent_by new.entries.items new.bytes.items) ≡ length (sent_by old.entries.items old.bytes.items) + length (filter_map settled_sent over.settled) =
           ap length a.sent ∙ length-append (sent_by old.entries.items old.bytes.items) (filter_map settled_sent over.settled) in
-          let e1 = length-map new.entries.items (entry_of new.bytes.items) in let e2 = length-map old.entries.items (entry_of old.bytes.items) in
+          let e1 = length-map new.entries.items (entry_of (new.bytes.items ∷ [])) in let e2 = length-map old.entries.items (entry_of (old.bytes.items ∷ [])) in
           let v1 = new.entries.ok.0 in let v2 = old.entries.ok.0 in
           omega (arith, h, more, e, e1, e2, v1, v2, grow));
       fates = (let h = rest.fates in let cap = a.room.0 in omega (arith, h, cap));

@@ -151,6 +151,7 @@ impl Work {
 
     // Keeps the bytes of a packet that is transmitted.
     fn keep(&mut self, number: u32, bytes: &[u8])
+        requires few { length bytes.now ≤ 2048 }
         requires entries { vec_len self.old.entries < vec_capacity self.old.entries }
         requires bytes { vec_len self.old.bytes + length bytes.now ≤ vec_capacity self.old.bytes }
         requires within { AreWithin self.old.entries.items self.old.bytes.items }
@@ -167,8 +168,9 @@ impl Work {
         };
         self.entries.push_reserved(SentEntry {
             number,
+            part: 0,
+            len: bytes.len() as u16,
             start,
-            len: bytes.len(),
         });
     }
 
@@ -355,10 +357,10 @@ impl Work {
             if to == station.worker {
                 continue;
             }
-            let group = mem::replace(&mut groups[to as usize], Frame::new());
-            if group.len() == 0 {
+            if groups[to as usize].len() == 0 {
                 continue;
             }
+            let group = mem::replace(&mut groups[to as usize], Frame::new());
             let output = &mut outputs[place_of(station.worker, to)];
             self.hand_over::<K, H, T, G>(fork, station, node, to, &group, output, cache);
         }

@@ -14,7 +14,7 @@ use Rattle.vg_dispatch.specs.Outlets.{outlet_of, most_in_round, ArePushes, Pushe
 use Rattle.vg_dispatch.proofs.PushLemmas.{pushed_more, pushed_none}
 use Rattle.vg_dispatch.proofs.PeerLemmas.{place_within, all_map_at, peers_length}
 use Rattle.vg_dispatch.proofs.GroupLemmas.{any_default}
-use Rattle.vg_dispatch.proofs.HandGroupLemmas.{IsHandingAll, handing_none, handing_empty, handing_steady, handing_one, handing_all, can_one, queue_at, queue_set}
+use Rattle.vg_dispatch.proofs.HandGroupLemmas.{IsHandingAll, handing_none, handing_skip, handing_steady, handing_one, handing_all, can_one, queue_at, queue_set}
 use Rattle.vg_dispatch.proofs.underway.Work.hand_groups.Goals as goal
 
 pub to-init : goal.to-init
@@ -34,13 +34,10 @@ to-preserved-then-len-eq0 g c =
     let now : List (List HandoffFrame) = by_worker c.args.station.worker [] (map g.H.Handoff.accepted c.to.outputs) in
     let inv = c.to.invariant in
     let size = inv.all.groups_are.size in let within = c.to-test.true in
-    let none : c.replace-group.result ≡ [] = nil_from_length _ (let e = c.len.ensures.count in let z = c.if-len-eq0.true in omega (arith, e, z)) in
-    let here : get_or c.to.groups c.to.to [] ≡ [] =
-    any_default c.to.groups c.to.to [] c.index-groups-to.result (omega (arith, size, within)) ∙ sym c.replace-group.ensures.value ∙ none in
+    let none : get_or c.to.groups c.to.to c.index-groups-to.result ≡ [] = nil_from_length _ (let e = c.len.ensures.count in let z = c.if-len-eq0.true in omega (arith, e, z)) in
+    let here : get_or c.to.groups c.to.to [] ≡ [] = any_default c.to.groups c.to.to [] c.index-groups-to.result (omega (arith, size, within)) ∙ none in
     record {
-      all = subst (λ group. IsHandingAll s c.args.node c.args.station.slots g.H.Handoff.LOSSLESS c.args.self.now c.args.cache.now put (grouped 0 c.args.groups.now) (c.to.to + 1) c.to.self c.to.cache now (set c.to.groups c.to.to group))
-          (sym (c.replace-group.ensures.after ∙ c.new.ensures))
-          (handing_empty s c.args.node c.args.station.slots g.H.Handoff.LOSSLESS c.args.self.now c.args.cache.now put (grouped 0 c.args.groups.now) c.to.to c.to.self c.to.cache now c.to.groups here inv.all);
+      all = handing_skip s c.args.node c.args.station.slots g.H.Handoff.LOSSLESS c.args.self.now c.args.cache.now put (grouped 0 c.args.groups.now) c.to.to c.to.self c.to.cache now c.to.groups here inv.all;
       can = inv.can;
       rings = inv.rings;
       pushed = inv.pushed;
@@ -79,6 +76,14 @@ offset_bounds-outputs-place_of g c =
     let most : n * size < 2 ^ 63 = whole in
     omega (arith, part, most)
 
+pub hand_over-requires-clause-some : goal.hand_over-requires-clause-some
+hand_over-requires-clause-some g c =
+    let inv = c.to.invariant in
+    let size = inv.all.groups_are.size in let within = c.to-test.true in
+    let there : c.to.to < length c.to.groups = omega (arith, size, within) in
+    let here_is : get_or c.to.groups c.to.to c.index-groups-to.result ≡ c.replace-group.result = any_default c.to.groups c.to.to c.index-groups-to.result c.index-groups-to-in-to.result there ∙ sym c.replace-group.ensures.value in
+    let n = c.len.ensures.count in let z = c.if-len-eq0.false in let e = ap length here_is in omega (arith, n, z, e)
+
 pub hand_over-requires-clause-hand : goal.hand_over-requires-clause-hand
 hand_over-requires-clause-hand g c =
     let s : Setting = stationed g.K.KindSet.meaning c.args.fork.now.graph c.args.fork.now.generation c.args.station in
@@ -86,7 +91,7 @@ hand_over-requires-clause-hand g c =
     let size = inv.all.groups_are.size in let within = c.to-test.true in
     let inside : c.to.to < length c.to.groups = omega (arith, size, within) in
     let at : get_or c.to.groups c.to.to [] ≡ c.replace-group.result =
-    any_default c.to.groups c.to.to [] c.index-groups-to.result inside ∙ sym c.replace-group.ensures.value in (
+    any_default c.to.groups c.to.to [] c.index-groups-to-in-to.result inside ∙ sym c.replace-group.ensures.value in (
       grouped 0 (set c.to.groups c.to.to []),
       handing_steady s c.args.node c.args.station.slots g.H.Handoff.LOSSLESS c.args.self.now c.args.cache.now (by_worker c.args.station.worker [] (map g.H.Handoff.accepted c.args.outputs.now)) (grouped 0 c.args.groups.now) c.to.to c.to.self c.to.cache
           (by_worker c.args.station.worker [] (map g.H.Handoff.accepted c.to.outputs)) c.to.groups c.replace-group.result inside at inv.all,
@@ -107,7 +112,7 @@ hand_over-requires-clause-room g c =
     let at = c.index-outputs-place_of.is in
     let size = inv.all.groups_are.size in
     let there : c.to.to < length c.to.groups = omega (arith, size, within) in
-    let group_is : get_or c.to.groups c.to.to [] ≡ c.replace-group.result = any_default c.to.groups c.to.to [] c.index-groups-to.result there ∙ sym c.replace-group.ensures.value in
+    let group_is : get_or c.to.groups c.to.to [] ≡ c.replace-group.result = any_default c.to.groups c.to.to [] c.index-groups-to-in-to.result there ∙ sym c.replace-group.ensures.value in
     let rest : List (ℕ × Step) = grouped 0 (set c.to.groups c.to.to []) in
     let steady : IsSteady s c.args.node c.to.self (handed_to c.to.to c.replace-group.result ++ rest) =
     handing_steady s c.args.node c.args.station.slots g.H.Handoff.LOSSLESS c.args.self.now c.args.cache.now (by_worker c.args.station.worker [] (map acc c.args.outputs.now)) (grouped 0 c.args.groups.now) c.to.to c.to.self c.to.cache
@@ -135,7 +140,7 @@ hand_over-requires-clause-count g c =
     let at = c.index-outputs-place_of.is in
     let size = inv.all.groups_are.size in
     let there : c.to.to < length c.to.groups = omega (arith, size, within) in
-    let group_is : get_or c.to.groups c.to.to [] ≡ c.replace-group.result = any_default c.to.groups c.to.to [] c.index-groups-to.result there ∙ sym c.replace-group.ensures.value in
+    let group_is : get_or c.to.groups c.to.to [] ≡ c.replace-group.result = any_default c.to.groups c.to.to [] c.index-groups-to-in-to.result there ∙ sym c.replace-group.ensures.value in
     let rest : List (ℕ × Step) = grouped 0 (set c.to.groups c.to.to []) in
     let steady : IsSteady s c.args.node c.to.self (handed_to c.to.to c.replace-group.result ++ rest) =
     handing_steady s c.args.node c.args.station.slots g.H.Handoff.LOSSLESS c.args.self.now c.args.cache.now (by_worker c.args.station.worker [] (map acc c.args.outputs.now)) (grouped 0 c.args.groups.now) c.to.to c.to.self c.to.cache
@@ -163,7 +168,7 @@ to-preserved g c =
     let at = c.index-outputs-place_of.is in
     let size = inv.all.groups_are.size in
     let there : c.to.to < length c.to.groups = omega (arith, size, within) in
-    let group_is : get_or c.to.groups c.to.to [] ≡ c.replace-group.result = any_default c.to.groups c.to.to [] c.index-groups-to.result there ∙ sym c.replace-group.ensures.value in
+    let group_is : get_or c.to.groups c.to.to [] ≡ c.replace-group.result = any_default c.to.groups c.to.to [] c.index-groups-to-in-to.result there ∙ sym c.replace-group.ensures.value in
     let rest : List (ℕ × Step) = grouped 0 (set c.to.groups c.to.to []) in
     let steady : IsSteady s c.args.node c.to.self (handed_to c.to.to c.replace-group.result ++ rest) =
     handing_steady s c.args.node c.args.station.slots g.H.Handoff.LOSSLESS c.args.self.now c.args.cache.now (by_worker c.args.station.worker [] (map acc c.args.outputs.now)) (grouped 0 c.args.groups.now) c.to.to c.to.self c.to.cache
@@ -191,7 +196,8 @@ to-preserved g c =
     ap (λ k. by_worker c.args.station.worker [] (map acc (set c.to.outputs k next))) c.place_of.ensures ∙ queue_set acc c.args.station c.to.to c.to.outputs next other own each in
     let live = handed.advances.live in let fewer = handed.fewer in
     let longer = ap length handed.put_is in let more = length-append (acc old) handed.pushed in let few = handed.one in
-    let some : 1 ≤ length c.replace-group.result = (let n = c.len.ensures.count in let z = c.if-len-eq0.false in omega (arith, n, z)) in
+    let here_is : get_or c.to.groups c.to.to c.index-groups-to.result ≡ c.replace-group.result = any_default c.to.groups c.to.to c.index-groups-to.result c.index-groups-to-in-to.result there ∙ sym c.replace-group.ensures.value in
+    let some : 1 ≤ length c.replace-group.result = (let n = c.len.ensures.count in let z = c.if-len-eq0.false in let e = ap length here_is in omega (arith, n, z, e)) in
     record {
       all = subst (λ group. IsHandingAll s c.args.node c.args.station.slots g.H.Handoff.LOSSLESS c.args.self.now c.args.cache.now start (grouped 0 c.args.groups.now) (c.to.to + 1) c.hand_over.new.self c.hand_over.new.cache
           (by_worker c.args.station.worker [] (map acc (set c.to.outputs place next))) (set c.to.groups c.to.to group)) (sym (c.replace-group.ensures.after ∙ c.new.ensures))
