@@ -10,3 +10,4 @@ pub mod EndedLemmas
 pub mod OrderLemmas
 pub mod OutcomeLemmas
 pub mod SeatLemmas
+pub mod ThreadLemmas

@@ -10,3 +10,5 @@ pub mod Crews
 pub mod Ended
 pub mod Seats
 pub mod Outcomes
+pub mod Ties
+pub mod Starts

@@ -8,6 +8,7 @@
 mod closing;
 mod crews;
 mod decisions;
+mod driving;
 mod ends;
 mod events;
 mod forks;
@@ -16,13 +17,21 @@ mod leading;
 pub mod links;
 mod lists;
 mod mains;
+mod posts;
 pub mod rests;
 pub mod runs;
 mod seats;
+mod started;
+mod teams;
 #[cfg(test)]
 mod tests;
+#[cfg(test)]
+mod thread_tests;
+pub mod threads;
+mod tied;
 
 pub use links::links_of;
 pub use rests::Rests;
 pub use runs::{Outcome, run_turns};
+pub use threads::run_threads;
 pub use vg_dispatch::{Input, Links, Options, WorkerLinks};

@@ -22,11 +22,43 @@ pub(crate) enum Phase {
     Clearing(Clearing<WorkerParcel>),
 }
 
+/// How often main looks how far the workers are, at most, for each packet that they had to pass.
+const LOOKS: u64 = 64;
+
+/// How far the workers had to go when main last gave them their parcels.
+#[derive(Clone, Copy)]
+pub(crate) struct Way {
+    /// The limit below which they draw packets.
+    pub limit: u64,
+    /// How many numbers below this limit the worker that was farthest behind had still to pass.
+    pub left: u64,
+}
+
+impl Way {
+    /// How often main looks how far the workers are before it asks them to park though they are not through: the farther they had to
+    /// go, the longer it waits.
+    pub(crate) fn pause(self) -> u64 {
+        self.left.saturating_add(1).saturating_mul(LOOKS)
+    }
+}
+
+// How far the workers with these parcels have to go.
+fn way_of(parcels: &Vec<WorkerParcel>) -> Way {
+    let mut way = Way { limit: 0, left: 0 };
+    for parcel in parcels {
+        let limit = u64::from(parcel.limit);
+        way.limit = way.limit.max(limit);
+        way.left = way.left.max(limit.saturating_sub(parcel.next));
+    }
+    way
+}
+
 /// Main, between its steps.
 #[derive(Drop)]
 pub(crate) struct Main {
     pub phase: Phase,
     pub lead: Lead,
+    pub way: Way,
 }
 
 impl Main {
@@ -36,7 +68,11 @@ impl Main {
         requires { IsMain input.now.plan.now input.now.capture.now barrier.now self }
         ensures { IsMain input.now.plan.now input.now.capture.now barrier.now result }
     {
-        let Main { phase, mut lead } = self;
+        let Main {
+            phase,
+            mut lead,
+            mut way,
+        } = self;
         let phase = match phase {
             Phase::Idle(seat) => {
                 if lead.told != Stop::No || seat.stamp() >= MOST_ASKED {
@@ -49,6 +85,7 @@ impl Main {
                 Parking::Wait { asked, seen: _ } => Phase::Asked(asked),
                 Parking::All(held) => {
                     let held = lead.decide(alloc, input, held);
+                    way = way_of(&held.parcels);
                     Phase::Clearing(held.release(barrier))
                 }
             },
@@ -57,7 +94,17 @@ impl Main {
                 Cleared::Idle(seat) => Phase::Idle(seat),
             },
         };
-        Main { phase, lead }
+        Main { phase, lead, way }
+    }
+
+    /// Whether the workers run, and none is asked to park.
+    pub(crate) fn is_idle(&self) -> bool {
+        matches!(self.phase, Phase::Idle(_))
+    }
+
+    /// Whether main has told the workers to stop, and all of them have left.
+    pub(crate) fn is_over(&self) -> bool {
+        self.is_idle() && self.lead.told != Stop::No
     }
 
     /// Main's seat once it is idle, and what it leads by.
@@ -73,10 +120,10 @@ impl Main {
     {
         let mut main = self;
         for _ in rt.forever() {
-            let Main { phase, lead } = main;
+            let Main { phase, lead, way } = main;
             match phase {
                 Phase::Idle(seat) => return (seat, lead),
-                phase => main = Main { phase, lead }.step(alloc, input, barrier),
+                phase => main = Main { phase, lead, way }.step(alloc, input, barrier),
             }
         }
         unreachable!()

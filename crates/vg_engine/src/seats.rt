@@ -15,7 +15,7 @@ ghost use Rattle.vg_engine.specs.Seats.{IsFirstSeat, first_parcel};
 use crate::decisions::Lead;
 use crate::forks::forks_of;
 use crate::lists::push;
-use crate::mains::{Main, Phase};
+use crate::mains::{Main, Phase, Way};
 use std::alloc::Global;
 use std::sync::ledger::Ledger;
 use vg_barrier::{Barrier, Running};
@@ -85,6 +85,7 @@ pub(crate) fn seats_of(alloc: Global, input: &Input<'_>) -> Result<Seats, Memory
     let workers = input.options.workers as usize;
     let parcels = parcels_of(alloc, &master, book.limit(0), workers)?;
     let parts = Barrier::new(alloc, input.plan.book(alloc, input.capture)?, parcels)?;
+    let limit = u64::from(book.limit(0));
     let lead = Lead {
         book,
         processes,
@@ -97,6 +98,7 @@ pub(crate) fn seats_of(alloc: Global, input: &Input<'_>) -> Result<Seats, Memory
         main: Main {
             phase: Phase::Idle(parts.main),
             lead,
+            way: Way { limit, left: limit },
         },
         workers: parts.workers,
     })

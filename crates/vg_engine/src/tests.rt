@@ -16,7 +16,7 @@ use vg_plan::Plan;
 use vg_script::parse_script;
 
 /// A frame from 192.0.2.1 to 10.0.0.1, of a datagram with no data. By its destination it goes to worker 1 of two.
-const FRAME: [u8; 34] = [
+pub(crate) const FRAME: [u8; 34] = [
     0x02, 0xfe, 0, 0, 0, 0, 0x02, 0, 0, 0, 0, 0x01, 0x08, 0, 0x45, 0, 0, 0x14, 0, 0, 0, 0, 0x40,
     0x11, 0xae, 0xd7, 192, 0, 2, 1, 10, 0, 0, 1,
 ];
@@ -34,7 +34,7 @@ const ROUTED: [u8; 34] = [
 ];
 
 /// Each packet is handed over by its destination and transmitted as it is.
-const HAND: &[u8] = b"node hand kind handoff-dst\narc hand resume ethernet-input\n\
+pub(crate) const HAND: &[u8] = b"node hand kind handoff-dst\narc hand resume ethernet-input\n\
     arc pg-input out hand\narc ethernet-input ip4 interface-tx\n";
 
 /// The same, but that packets are dropped from a time on.
@@ -54,7 +54,7 @@ const FLAPPING: &[u8] =
     process p every 100 count 3\nroute 10.0.0.0/8 drop\nthen\nroute 10.0.0.0/8 via east\nend\n\
     at 100\nroute 10.0.0.0/8 local\nend\n";
 
-const SENT: End = End::Tx { interface: 0 };
+pub(crate) const SENT: End = End::Tx { interface: 0 };
 
 /// How a packet ends that a node drops.
 fn dropped(node: u16, error: DropError) -> End {
@@ -63,7 +63,7 @@ fn dropped(node: u16, error: DropError) -> End {
 
 /// What is expected of a packet: the worker and generation of each leg, the count of a full queue, and the end.
 #[derive(Drop)]
-struct Expected {
+pub(crate) struct Expected {
     legs: &'static [(u8, u32)],
     congested: Option<u64>,
     end: End,
@@ -71,7 +71,7 @@ struct Expected {
 
 impl Expected {
     /// A packet that no queue refused.
-    fn ends(legs: &'static [(u8, u32)], end: End) -> Expected {
+    pub(crate) fn ends(legs: &'static [(u8, u32)], end: End) -> Expected {
         Expected {
             legs,
             congested: None,
@@ -81,7 +81,7 @@ impl Expected {
 }
 
 /// This frame, captured at this time in microseconds.
-fn captured(alloc: Global, frame: &[u8; 34], time: u32) -> Result<Captured, AllocError> {
+pub(crate) fn captured(alloc: Global, frame: &[u8; 34], time: u32) -> Result<Captured, AllocError> {
     Ok(Captured {
         seconds: 0,
         fraction: time,
@@ -141,7 +141,7 @@ fn is_expected(fate: &Fate, number: u32, expected: &Expected) -> bool {
 }
 
 /// Whether the fates are those expected, by number.
-fn are_expected(outcome: &Outcome, all: &[Expected]) -> bool {
+pub(crate) fn are_expected(outcome: &Outcome, all: &[Expected]) -> bool {
     let fates = outcome.fates.as_slice();
     if fates.len() != all.len() {
         return false;
@@ -157,7 +157,7 @@ fn are_expected(outcome: &Outcome, all: &[Expected]) -> bool {
 }
 
 /// Whether the first nodes were visited so often.
-fn have_visits(counts: &Counters, visits: &[u64]) -> bool
+pub(crate) fn have_visits(counts: &Counters, visits: &[u64]) -> bool
     requires nodes { length visits.now ≤ 64 }
     requires counts { AreWholeCounts counts.now }
 {
@@ -185,7 +185,7 @@ fn sent_alike(one: &Outcome, other: &Outcome) -> bool {
 }
 
 /// Two workers, with the first packet traced.
-const TWO: Options = Options {
+pub(crate) const TWO: Options = Options {
     workers: 2,
     buffers: 4096,
     queue: 64,
@@ -194,9 +194,9 @@ const TWO: Options = Options {
 };
 
 /// A packet of worker 0 that goes over to worker 1, and one of worker 1.
-const HANDED: &[(u8, u32)] = &[(0, 0), (1, 0)];
+pub(crate) const HANDED: &[(u8, u32)] = &[(0, 0), (1, 0)];
 
-const KEPT: &[(u8, u32)] = &[(1, 0)];
+pub(crate) const KEPT: &[(u8, u32)] = &[(1, 0)];
 
 #[test]
 fn packets_of_worker_0_are_handed_to_worker_1(rt: HostRuntime) -> Result<(), Fail> {
