@@ -5,3 +5,13 @@ pub mod OneWorkerLemmas
 pub mod LawLemmas
 pub mod OutputLemmas
 pub mod AlikeLemmas
+pub mod GrowthLemmas
+pub mod EntryLemmas
+pub mod PushLemmas
+pub mod SaveLemmas
+pub mod ToldLemmas
+pub mod ReportLemmas
+pub mod YesLemmas
+pub mod CheckLemmas
+pub mod OneVerdictLemmas
+pub mod CongestionLemmas

@@ -1,2 +1,8 @@
 pub mod Output
 pub mod OneWorker
+pub mod Congestion
+pub mod Hands
+pub mod Reports
+pub mod Saves
+pub mod Points
+pub mod Verdicts

@@ -1,4 +1,18 @@
-//! What a run puts out, as definitions and laws.
+//! What a run puts out, as definitions and laws, and a checker: whether a report and a savefile are what a run may have put out.
+//!
+//! A report's packet lines name what the run chose: the generation of each leg, and how many frames a full queue had accepted.
+//! [`check`] takes each packet once through the generations that its line names, and so needs no worker, queue or thread to tell
+//! what a run of any number of them had to put out.
 #![tactic(auto)]
 
+pub mod checks;
 pub mod laws;
+mod pushes;
+mod reporting;
+mod saves;
+#[cfg(test)]
+mod tests;
+pub mod verdicts;
+
+pub use checks::check;
+pub use verdicts::Verdict;

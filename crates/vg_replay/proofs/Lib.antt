@@ -1,0 +1,15 @@
+pub mod LegLemmas
+pub mod CourseLemmas
+pub mod InsideLemmas
+pub mod CountLemmas
+pub mod TimeLemmas
+pub mod WalkLemmas
+pub mod UnderwayLemmas
+pub mod ReplayLemmas
+pub mod ScheduleLemmas
+pub mod WalkerLemmas
+pub mod InputLemmas
+pub mod TakeLemmas
+pub mod GoLemmas
+pub mod BeginLemmas
+pub mod PassLemmas

@@ -1,0 +1,10 @@
+pub mod Legs
+pub mod Courses
+pub mod Tasks
+pub mod View
+pub mod Trips
+pub mod Counts
+pub mod Times
+pub mod Replays
+pub mod Underway
+pub mod Walks

@@ -1,0 +1,23 @@
+//! Takes packets through the generations of a plan once more, each under the choices that a report's line names for it: the generation
+//! of each of its legs, and, where its last push was refused, how many frames the refusing queue had accepted.
+//!
+//! [`replay`] has no frames, queues or threads: which worker a leg is on follows from where the packet was handed over. Packets are
+//! taken generation by generation, so that one fork is there at a time; a packet whose next leg is of a later generation waits.
+#![tactic(auto)]
+
+mod counting;
+mod inputs;
+pub mod legs;
+pub mod replaying;
+mod schedules;
+#[cfg(test)]
+mod tests;
+mod times;
+pub mod trips;
+mod underway;
+mod walkers;
+
+pub use inputs::Input;
+pub use legs::Outcome;
+pub use replaying::{ReplayError, Replayed, replay};
+pub use trips::{Trip, copied};

@@ -1,0 +1,273 @@
+//! Packets that are being taken through, generation by generation.
+ghost use Rattle.std.specs.Prelude.{◌≡◌, ◌↔◌, ◌+◌, ◌<◌, ◌≤◌, Some, None, length, drop, map, slice_get, IsTrue, IfOk, OnOk};
+ghost use Rattle.std.specs.List.{AllByRecursion};
+ghost use Rattle.vg_model.specs.Visit.{Visit};
+ghost use Rattle.vg_model.specs.Journey.{goes_together as goes_together_with, end_of};
+ghost use Rattle.vg_model.specs.Valid.{AreBytes};
+ghost use Rattle.vg_plan.specs.Plan.{windows, IsGeneration};
+ghost use Rattle.vg_replay.specs.Counts.{CanCount};
+ghost use Rattle.vg_replay.specs.Courses.{in_hand};
+ghost use Rattle.vg_replay.specs.Legs.{outcome_of};
+ghost use Rattle.vg_replay.specs.Replays.{task_of, IsInput};
+ghost use Rattle.vg_replay.specs.Walks.{IsHere, MayWalk, MayGo};
+
+use crate::counting::count;
+use crate::inputs::Input;
+use crate::legs::Outcome;
+use crate::schedules::Schedule;
+use crate::times::starts_at;
+use crate::trips::Trip;
+use crate::walkers::Walker;
+use std::alloc::{AllocError, Global};
+use vg_capture::Capture;
+use vg_counters::Counters;
+use vg_fork::Fork;
+use vg_model::{Leg, Memory};
+use vg_nodes::KindSet;
+use vg_plan::{Book, Plan};
+
+/// The most nodes and interfaces of a graph.
+const MOST_NODES: u16 = 64;
+
+const MOST_INTERFACES: u16 = 16;
+
+/// Packets that are being taken through: how far each has come, when its next leg is due, and what is counted of those that are
+/// through. The packets before `stuck` are on their way; where there is a packet with that number, it has no journey.
+#[derive(Drop)]
+pub(crate) struct Underway {
+    pub trips: Vec<Trip>,
+    pub schedule: Schedule,
+    pub counts: Counters,
+    pub walker: Walker,
+    pub stuck: u32,
+}
+
+// Whether a count of a refusing queue and the end of the last leg go together.
+fn goes_together(accepted: Option<u64>, outcome: Outcome) -> bool
+    ensures { result ≡ goes_together_with accepted (outcome_of outcome) }
+{
+    match outcome {
+        Outcome::Handed { .. } => accepted.is_some(),
+        Outcome::Sent { .. } | Outcome::Dropped { .. } => accepted.is_none(),
+    }
+}
+
+// Each byte is below 256.
+fn know_bytes(bytes: &[u8])
+    ensures { AreBytes bytes.now }
+{
+    let _ = bytes;
+}
+
+// The graphs of all generations are valid and keep the limits.
+fn know_graphs(plan: &Plan)
+    ensures { AllByRecursion IsGeneration plan.now.graphs }
+{
+    let _generations = plan.generations();
+}
+
+// A capture has no more than 65,536 packets.
+fn know_few(capture: &Capture)
+    ensures { length capture.now.packets ≤ 65536 }
+{
+    let _count = capture.packets.len();
+}
+
+// Takes a packet through its next leg, the first one under a generation. Whether it has one.
+fn take_leg<K: KindSet>(
+    walker: &mut Walker,
+    kinds: &K,
+    fork: &Fork,
+    input: &Input<'_>,
+    number: u32,
+    trip: &Trip,
+) -> Result<bool, AllocError>
+    requires input { IsInput input.now }
+    requires number { number < length input.now.capture.now.packets }
+    requires graph { slice_get input.now.plan.now.graphs fork.now.generation ≡ Some fork.now.graph }
+    requires few { length trip.now.legs < 4 }
+    requires here { IsHere (task_of K.meaning input.now) input.now.traced fork.now.generation number trip.now }
+    ensures { IfOk result (MayWalk (task_of K.meaning input.now) number trip.now (in_hand walker.new)) }
+{
+    know_graphs(input.plan);
+    if trip.legs().is_empty() {
+        let bytes = input.capture.packets.bytes(number as usize);
+        return walker.begin(kinds, fork, input.workers, number, bytes);
+    }
+    walker.take_up(trip)?;
+    walker.step(kinds, fork, input.workers)
+}
+
+// Takes a packet on, as far as its choice goes under a generation. `None` where its choice fits no journey.
+fn go_on<K: KindSet>(
+    alloc: Global,
+    walker: &mut Walker,
+    kinds: &K,
+    fork: &Fork,
+    input: &Input<'_>,
+    number: u32,
+    trip: &Trip,
+) -> Result<Option<Trip>, AllocError>
+    requires input { IsInput input.now }
+    requires number { number < length input.now.capture.now.packets }
+    requires graph { slice_get input.now.plan.now.graphs fork.now.generation ≡ Some fork.now.graph }
+    requires here { IsHere (task_of K.meaning input.now) input.now.traced fork.now.generation number trip.now }
+    ensures { IfOk result (MayGo (task_of K.meaning input.now) input.now.traced fork.now.generation number trip.now (in_hand walker.new)) }
+{
+    know_graphs(input.plan);
+    know_bytes(input.capture.packets.bytes(number as usize));
+    let line = input.lines.get(number as usize);
+    let legs = line.legs.as_slice();
+    if !take_leg(walker, kinds, fork, input, number, trip)? {
+        return Ok(None);
+    }
+    'legs: for k in trip.legs().len() + 1..legs.len() {
+        if legs[k].generation != fork.generation() {
+            return Ok(Some(Trip::of(alloc, number, walker, true)?));
+        }
+        if !walker.step(kinds, fork, input.workers)? {
+            return Ok(None);
+        }
+    }
+    if !goes_together(line.congested, walker.outcome) {
+        return Ok(None);
+    }
+    let is_traced = (number as usize) < input.traced;
+    Ok(Some(Trip::of(alloc, number, walker, is_traced)?))
+}
+
+// Whether the next leg of a packet is of this generation.
+fn is_due(legs: &[Leg], trip: &Trip, generation: u32) -> bool
+    ensures { IsTrue result ↔ (slice_get (map (λ leg. leg.generation) legs.now) (length trip.now.legs) ≡ Some generation) }
+{
+    match legs.get(trip.legs().len()) {
+        Some(leg) => leg.generation == generation,
+        None => false,
+    }
+}
+
+impl Underway {
+    ghost use Rattle.vg_replay.specs.Underway.{IsNew, IsScheduled, IsDue, AreUnderway, Keeps};
+
+    // No packet, for so many generations.
+    pub(crate) fn new(alloc: Global, generations: u32) -> Result<Underway, Memory>
+        ensures { IfOk result (IsNew generations) }
+    {
+        let Ok(schedule) = Schedule::new(alloc, generations) else {
+            return Err(Memory);
+        };
+        Ok(Underway {
+            trips: Vec::new(alloc),
+            schedule,
+            counts: Counters::new(alloc, MOST_NODES, MOST_INTERFACES)?,
+            walker: Walker::new(alloc)?,
+            stuck: 0,
+        })
+    }
+
+    // Puts the packets into the schedule, up to the first whose generations don't begin with that of its time, fall, or aren't there.
+    pub(crate) fn begin(
+        &mut self,
+        alloc: Global,
+        input: &Input<'_>,
+        book: &Book,
+    ) -> Result<(), AllocError>
+        requires input { IsInput input.now }
+        requires book { book.now ≡ windows input.now.plan.now input.now.capture.now }
+        requires new { IsNew (length input.now.plan.now.graphs) self.old }
+        ensures { (visit : Visit) → OnOk result (AreUnderway (task_of visit input.now) input.now.traced (IsScheduled 0 self.new.schedule) self.new) }
+    {
+        'packets: for number in 0..input.capture.count() {
+            let line = input.lines.get(number as usize);
+            let legs = line.legs.as_slice();
+            if !starts_at(input, book, number, legs) {
+                return Ok(());
+            }
+            know_bytes(input.capture.packets.bytes(number as usize));
+            self.schedule.put(legs[0].generation, number)?;
+            self.trips.push(Trip::new(alloc, number))?;
+            self.stuck = number + 1;
+        }
+        Ok(())
+    }
+
+    // Keeps how far the packet that was walked has come: it waits for the generation of its next leg, or is counted.
+    fn keep(&mut self, number: u32, trip: Trip, legs: &[Leg]) -> Result<(), AllocError>
+        requires number { number < length self.old.trips.items }
+        requires generations { AllByRecursion (λ leg. leg.generation < length self.old.schedule) legs.now }
+        requires count { slice_get (map (λ leg. leg.generation) legs.now) (length trip.legs) ≡ None
+            → CanCount self.old.walker.visits.items (end_of (outcome_of self.old.walker.outcome)) self.old.counts }
+        ensures { OnOk result (Keeps (slice_get (map (λ leg. leg.generation) legs.now) (length trip.legs)) number trip self.old self.new) }
+    {
+        let done = trip.legs().len();
+        self.trips[number as usize] = trip;
+        match legs.get(done) {
+            Some(leg) => self.schedule.put(leg.generation, number),
+            None => {
+                count(
+                    &mut self.counts,
+                    self.walker.visits.as_slice(),
+                    self.walker.outcome,
+                );
+                Ok(())
+            }
+        }
+    }
+
+    // Takes the packet on whose number stands at a place of these.
+    fn take_on<K: KindSet>(
+        &mut self,
+        alloc: Global,
+        input: &Input<'_>,
+        kinds: &K,
+        fork: &Fork,
+        numbers: &[u32],
+        place: usize,
+    ) -> Result<(), AllocError>
+        requires input { IsInput input.now }
+        requires graph { slice_get input.now.plan.now.graphs fork.now.generation ≡ Some fork.now.graph }
+        requires place { place < length numbers.now }
+        requires underway { AreUnderway (task_of K.meaning input.now) input.now.traced (IsDue fork.now.generation (drop place numbers.now) self.old.schedule) self.old }
+        ensures { OnOk result (AreUnderway (task_of K.meaning input.now) input.now.traced (IsDue fork.now.generation (drop (place + 1) numbers.now) self.new.schedule) self.new) }
+    {
+        let number = numbers[place];
+        if number >= self.stuck {
+            return Ok(());
+        }
+        let line = input.lines.get(number as usize);
+        let legs = line.legs.as_slice();
+        let trip = &self.trips[number as usize];
+        if !is_due(legs, trip, fork.generation()) {
+            return Ok(());
+        }
+        know_graphs(input.plan);
+        know_few(input.capture);
+        match go_on(alloc, &mut self.walker, kinds, fork, input, number, trip)? {
+            Some(trip) => self.keep(number, trip, legs),
+            None => {
+                self.stuck = number;
+                Ok(())
+            }
+        }
+    }
+
+    // Takes packets on that are due in a generation.
+    pub(crate) fn take_all<K: KindSet>(
+        &mut self,
+        alloc: Global,
+        input: &Input<'_>,
+        kinds: &K,
+        fork: &Fork,
+        numbers: &[u32],
+    ) -> Result<(), AllocError>
+        requires input { IsInput input.now }
+        requires graph { slice_get input.now.plan.now.graphs fork.now.generation ≡ Some fork.now.graph }
+        requires underway { AreUnderway (task_of K.meaning input.now) input.now.traced (IsDue fork.now.generation numbers.now self.old.schedule) self.old }
+        ensures { OnOk result (AreUnderway (task_of K.meaning input.now) input.now.traced (IsScheduled (fork.now.generation + 1) self.new.schedule) self.new) }
+    {
+        'numbers: for place in 0..numbers.len() {
+            self.take_on(alloc, input, kinds, fork, numbers, place)?;
+        }
+        Ok(())
+    }
+}
