@@ -1,12 +1,11 @@
 -- The checks of the words behind `run`, word by word.
-use Rattle.std.proofs.Common.{◌≡◌, ◌∙◌, ◌+◌, ◌-◌, ◌<◌, ◌&&◌, ◌||◌, ℕ, suc, Bool, cond, true, false, not, refl, sym, ap, ap₂, subst, List, [], ◌∷◌, ◌++◌, length, drop, take, get_or, Option, Some, None, option_map, true≢false, arith, drop-cons, add-one}
+use Rattle.std.proofs.Common.{◌≡◌, ◌∙◌, ◌+◌, ◌-◌, ◌<◌, ◌&&◌, ℕ, Bool, true, false, not, refl, sym, ap, List, [], ◌∷◌, ◌++◌, length, drop, take, get_or, Option, Some, None, arith, drop-cons, add-one}
 use Rattle.std.specs.Borrow.{Bor}
 use Rattle.std.specs.Prelude.{is_some, bytes_eq, map}
-use Rattle.std.specs.List.{list_any}
 use Rattle.std.specs.Option.{option_map_or}
 use Rattle.std.proofs.lemmas.List.{map-append, take_rest}
 use Rattle.clap.proofs.WalkLemmas.{list_any-map}
-use Rattle.vg_words.specs.Command.{Text, Given, Said, is_plain, option_in, is_given, is_option_name, nothing_said, said_from, texts, whole, with_name, with_option, with_option_word, with_value, with_word, with_word_after, ◌>>=◌}
+use Rattle.vg_words.specs.Command.{Text, Given, Said, is_flag, is_plain, yes, option_in, is_given, is_option_name, said_from, texts, with_option, with_option_word, with_value, ◌>>=◌}
 use Rattle.vg_words.specs.Checks.{are_well_formed, is_used, named, new_option}
 
 -- the word at a place, and the words behind it
@@ -65,10 +64,16 @@ value-agrees words names options name word again =
 option-agrees : (words : List Text) (names : List Text) (options : List Given) (name : Text) (value : Option Text) → Agree words
     → is_some (with_option (said_by names options None) name value >>= (λ next. said_from next words))
     ≡ option_map_or (λ p. are_well_formed (map (λ (g : Given). g.0) options ++ p.0 ∷ []) p.1 words) (named name value) false
-option-agrees words names options name None again = again (Some name) names options
-option-agrees words names options name (Some value) again = by_test (is_plain value) refl
+option-agrees words names options name None again = by_flag (is_flag name) refl
   where
-    by_test : (b : Bool) → is_plain value ≡ b
+    by_flag : (b : Bool) → is_flag name ≡ b
+        → is_some (with_option (said_by names options None) name None >>= (λ next. said_from next words))
+        ≡ option_map_or (λ p. are_well_formed (map (λ (g : Given). g.0) options ++ p.0 ∷ []) p.1 words) (named name None) false
+    by_flag true e = rw e (value-agrees words names options name yes again)
+    by_flag false e = rw e (again (Some name) names options)
+option-agrees words names options name (Some value) again = by_test (not (is_flag name) && is_plain value) refl
+  where
+    by_test : (b : Bool) → (not (is_flag name) && is_plain value) ≡ b
         → is_some (with_option (said_by names options None) name (Some value) >>= (λ next. said_from next words))
         ≡ option_map_or (λ p. are_well_formed (map (λ (g : Given). g.0) options ++ p.0 ∷ []) p.1 words) (named name (Some value)) false
     by_test true e = rw e (value-agrees words names options name value again)

@@ -1,6 +1,7 @@
 pub mod TextLemmas
 pub mod NumberLemmas
 pub mod CheckLemmas
+pub mod CheckWordLemmas
 pub mod RowLemmas
 pub mod StepLemmas
 pub mod SaidLemmas

@@ -1,23 +1,23 @@
 -- A parse of the words behind `run`: what it holds in the end, and that it has a fault where there are too many names.
-use Rattle.std.proofs.Common.{◌≡◌, ◌∙◌, ◌+◌, ◌<◌, ◌≤◌, ◌&&◌, ◌||◌, ◌⊎◌, ◌==◌, ℕ, zero, suc, Bool, cond, true, false, not, refl, sym, ap, ap₂, subst, List, [], ◌∷◌, ◌++◌, length, codes, Option, Some, None, option_map, inl, inr, true≢false, arith, length-append}
-use Rattle.std.specs.Prelude.{is_some, slice_get}
-use Rattle.std.specs.List.{find, fold, list_any}
-use Rattle.std.specs.Str.{bytes_eq}
-use Rattle.clap.specs.Walk.{Row, Rule, Walk, arg_by_index, first_of, has_row, idle, option, walked}
+use Rattle.std.proofs.Common.{◌≡◌, ◌∙◌, ◌<◌, ◌≤◌, ◌&&◌, ◌⊎◌, suc, Bool, cond, true, false, not, refl, sym, subst, List, [], ◌∷◌, ◌++◌, length, codes, Option, Some, None, inl, inr, arith, length-append}
+use Rattle.std.specs.Prelude.{is_some}
+use Rattle.std.specs.List.{fold}
+use Rattle.clap.specs.Walk.{Row, Rule, Walk, arg_by_index, has_row, idle, option, walked}
 use Rattle.clap.specs.Simple.{Shape}
-use Rattle.clap.specs.Kinds.{Kinds, or_else}
+use Rattle.clap.specs.Kinds.{Kinds}
 use Rattle.clap.specs.Faults.{turn_fault, walk_fault}
 use Rattle.clap.specs.declared.error.kind.ErrorKind.{ErrorKind}
 use Rattle.clap.specs.declared.error.kind.ErrorKind.TheVariants as kind
-use Rattle.vg_words.specs.Command.{Text, Given, Said, is_plain, is_option_name, option_in, is_given, value_in, with_name, with_value, with_option, with_option_word, with_word_after, with_word, whole, said_from, ◌>>=◌}
-use Rattle.vg_words.proofs.TextLemmas.{bytes_eq-refl, bytes_eq-true, and_both, by_option, not_true, or_cases, true_or_false, some_is, none_is_not_some}
-use Rattle.vg_words.proofs.RowLemmas.{IsSingle, row, first_of-here, first_of-other, has_row-snoc}
-use Rattle.vg_words.proofs.StepLemmas.{IsFlag, IsFresh, IsOption, IsPosition, Last, all_rows, held, pending_of, walk_at, option-flag, name-walked, name-fault, stray-fault, option-walked, option-fault, given-walked, given-fault, value-walked, value-fault}
+use Rattle.vg_words.specs.Command.{Text, Given, Said, is_flag, is_plain, is_option_name, option_in, is_given, yes, with_name, with_value, with_option, with_option_word, with_word_after, with_word, whole, said_from, ◌>>=◌}
+use Rattle.vg_words.proofs.TextLemmas.{bytes_eq-true, and_both, not_true, some_is, none_is_not_some}
+use Rattle.vg_words.proofs.RowLemmas.{row}
+use Rattle.vg_words.proofs.StepLemmas.{IsFlag, IsFlagRule, IsFresh, IsOption, IsPosition, Last, all_rows, held, pending_of, walk_at, flag-fault, flag-walked, option-flag, name-walked, name-fault, stray-fault, option-walked, option-fault, given-walked, given-fault, value-walked, value-fault}
 use Rattle.vg_words.proofs.SaidLemmas.{Agrees, agrees-value, agrees-capture, agrees-script, agrees-tx}
 
 -- an argument for each option, and one for each of three names
 pub record IsRunShape (s : Shape) : Type 0 where
-  pub options : (name : Text) → is_option_name name ≡ true → (a : Rule) × (a.id ≡ name) × IsOption s.rules a
+  pub options : (name : Text) → is_option_name name ≡ true → is_flag name ≡ false → (a : Rule) × (a.id ≡ name) × IsOption s.rules a
+  pub hold : (a : Rule) × (a.id ≡ codes "hold") × IsFlagRule s.rules a
   pub capture : (a : Rule) × (a.id ≡ codes "capture") × IsPosition s.rules 1 a
   pub script : (a : Rule) × (a.id ≡ codes "script") × IsPosition s.rules 2 a
   pub tx : (a : Rule) × (a.id ≡ codes "tx") × IsPosition s.rules 3 a
@@ -123,10 +123,11 @@ passed false o x e = absurd (none_is_not_some x e)
 -- an option
 rule-goes_on : (s : Shape) (names : List Text) (options : List Given) (rows : List Row) (last : Last) (word : Text) (a : Rule) (value : Option Text) (next : Said)
     → IsRunShape s → IsOption s.rules a → IsFlag word (a.id, value) → is_option_name a.id ≡ true → is_given a.id options ≡ false
-    → with_option (said_with names options) a.id value ≡ Some next → IsFresh s.rules rows last → Agrees (all_rows rows last) names options → length names ≤ 3
+    → is_flag a.id ≡ false → with_option (said_with names options) a.id value ≡ Some next → IsFresh s.rules rows last → Agrees (all_rows rows last) names options → length names ≤ 3
     → GoesOn s next (resting_at rows last names) word
-rule-goes_on s names options rows last word a None next run at flag known new e fresh agrees few =
-    let is : record (said_with names options) { waits = Some a.id } ≡ next = some_is _ _ e in
+rule-goes_on s names options rows last word a None next run at flag known new valued e fresh agrees few =
+    let same = subst (λ (b : Bool). cond b (Some (with_value (said_with names options) a.id yes)) (Some (record (said_with names options) { waits = Some a.id })) ≡ Some next) valued e in
+    let is : record (said_with names options) { waits = Some a.id } ≡ next = some_is _ _ same in
     subst (λ (n : Said). GoesOn s n (resting_at rows last names) word) is (inl (
       inr (record {
         rows = all_rows rows last;
@@ -141,8 +142,8 @@ rule-goes_on s names options rows last word a None next run at flag known new e 
       }),
       option-fault s rows last (suc (length names)) a word run.again flag fresh at,
     ))
-rule-goes_on s names options rows last word a (Some value) next run at flag known new e fresh agrees few =
-    let whole = passed (is_plain value) (Some (with_value (said_with names options) a.id value)) next e in
+rule-goes_on s names options rows last word a (Some value) next run at flag known new valued e fresh agrees few =
+    let whole = passed (not (is_flag a.id) && is_plain value) (Some (with_value (said_with names options) a.id value)) next e in
     let is : with_value (said_with names options) a.id value ≡ next = some_is _ _ whole.1 in
     let none : has_row a.id (all_rows rows last) ≡ false = agrees.given a.id known ∙ new in
     subst (λ (n : Said). GoesOn s n (resting_at rows last names) word) is (inl (
@@ -158,19 +159,57 @@ rule-goes_on s names options rows last word a (Some value) next run at flag know
       given-fault s rows last (suc (length names)) a value word run.again flag fresh at none,
     ))
 
+-- a flag
+flag-goes_on : (s : Shape) (names : List Text) (options : List Given) (rows : List Row) (last : Last) (word : Text) (a : Rule) (value : Option Text) (next : Said)
+    → IsRunShape s → IsFlagRule s.rules a → IsFlag word (a.id, value) → is_option_name a.id ≡ true → is_given a.id options ≡ false
+    → is_flag a.id ≡ true → with_option (said_with names options) a.id value ≡ Some next → IsFresh s.rules rows last → Agrees (all_rows rows last) names options → length names ≤ 3
+    → GoesOn s next (resting_at rows last names) word
+flag-goes_on s names options rows last word a None next run at flag known new plain e fresh agrees few =
+    let same = subst (λ (b : Bool). cond b (Some (with_value (said_with names options) a.id yes)) (Some (record (said_with names options) { waits = Some a.id })) ≡ Some next) plain e in
+    let is : with_value (said_with names options) a.id yes ≡ next = some_is _ _ same in
+    let none : has_row a.id (all_rows rows last) ≡ false = agrees.given a.id known ∙ new in
+    subst (λ (n : Said). GoesOn s n (resting_at rows last names) word) is (inl (
+      inl (record {
+        rows = all_rows rows last ++ row a yes ∷ [];
+        last = None;
+        none = refl;
+        fresh = tt;
+        agrees = agrees-value (all_rows rows last) names options a yes agrees known new;
+        few = few;
+        is = flag-walked s rows last (suc (length names)) a word flag fresh at none;
+      }),
+      flag-fault s rows last (suc (length names)) a word run.again flag fresh at none,
+    ))
+flag-goes_on s names options rows last word a (Some value) next run at flag known new plain e fresh agrees few =
+    let same = subst (λ (b : Bool). cond (not b && is_plain value) (Some (with_value (said_with names options) a.id value)) None ≡ Some next) plain e in
+    absurd (none_is_not_some next same)
+
 option-goes_on : (s : Shape) (names : List Text) (options : List Given) (rows : List Row) (last : Last) (word name : Text) (value : Option Text) (next : Said) → IsRunShape s
     → IsFlag word (name, value) → is_option_name name ≡ true → is_given name options ≡ false → with_option (said_with names options) name value ≡ Some next
     → IsFresh s.rules rows last → Agrees (all_rows rows last) names options → length names ≤ 3
     → GoesOn s next (resting_at rows last names) word
-option-goes_on s names options rows last word name value next run flag known new e fresh agrees few =
-    let found = run.options name known in
-    let same : name ≡ found.0.id = sym found.1 in
-    rule-goes_on s names options rows last word found.0 value next run found.2
-    (subst (λ (n : Text). IsFlag word (n, value)) same flag)
-    (subst (λ (n : Text). is_option_name n ≡ true) same known)
-    (subst (λ (n : Text). is_given n options ≡ false) same new)
-    (subst (λ (n : Text). with_option (said_with names options) n value ≡ Some next) same e)
-    fresh agrees few
+option-goes_on s names options rows last word name value next run flag known new e fresh agrees few = by_flag (is_flag name) refl
+  where
+    by_flag : (b : Bool) → is_flag name ≡ b → GoesOn s next (resting_at rows last names) word
+    by_flag true is =
+        let same : name ≡ run.hold.0.id = bytes_eq-true name (codes "hold") is ∙ sym run.hold.1 in
+        flag-goes_on s names options rows last word run.hold.0 value next run run.hold.2
+        (subst (λ (n : Text). IsFlag word (n, value)) same flag)
+        (subst (λ (n : Text). is_option_name n ≡ true) same known)
+        (subst (λ (n : Text). is_given n options ≡ false) same new)
+        (subst (λ (n : Text). is_flag n ≡ true) same is)
+        (subst (λ (n : Text). with_option (said_with names options) n value ≡ Some next) same e)
+        fresh agrees few
+    by_flag false is =
+        let found = run.options name known is in
+        let same : name ≡ found.0.id = sym found.1 in
+        rule-goes_on s names options rows last word found.0 value next run found.2
+        (subst (λ (n : Text). IsFlag word (n, value)) same flag)
+        (subst (λ (n : Text). is_option_name n ≡ true) same known)
+        (subst (λ (n : Text). is_given n options ≡ false) same new)
+        (subst (λ (n : Text). is_flag n ≡ false) same is)
+        (subst (λ (n : Text). with_option (said_with names options) n value ≡ Some next) same e)
+        fresh agrees few
 
 option_word-goes_on : (s : Shape) (names : List Text) (options : List Given) (rows : List Row) (last : Last) (word : Text) (p : Option (Text × Option Text)) (next : Said) → IsRunShape s
     → option_in word ≡ p → with_option_word (said_with names options) p ≡ Some next
@@ -232,10 +271,15 @@ name_kept said next word (Some name) e =
     subst (λ (n : Said). length said.names ≤ length n.names) is (omega arith)
 name_kept said next word None e = by_word (is_plain word) e
   where
+    by_flag : (name : Text) (b : Bool) → cond b (Some (with_value said name yes)) (Some (record said { waits = Some name })) ≡ Some next
+        → length said.names ≤ length next.names
+    by_flag name true same = subst (λ (n : Said). length said.names ≤ length n.names) (some_is _ _ same) (omega arith)
+    by_flag name false same = subst (λ (n : Said). length said.names ≤ length n.names) (some_is _ _ same) (omega arith)
+
     by_value : (name : Text) (value : Option Text) → with_option said name value ≡ Some next → length said.names ≤ length next.names
-    by_value name None same = subst (λ (n : Said). length said.names ≤ length n.names) (some_is _ _ same) (omega arith)
+    by_value name None same = by_flag name (is_flag name) same
     by_value name (Some value) same =
-        subst (λ (n : Said). length said.names ≤ length n.names) (some_is _ _ (passed (is_plain value) (Some (with_value said name value)) next same).1) (omega arith)
+        subst (λ (n : Said). length said.names ≤ length n.names) (some_is _ _ (passed (not (is_flag name) && is_plain value) (Some (with_value said name value)) next same).1) (omega arith)
 
     by_option_word : (p : Option (Text × Option Text)) → with_option_word said p ≡ Some next → length said.names ≤ length next.names
     by_option_word None same = absurd (none_is_not_some next same)

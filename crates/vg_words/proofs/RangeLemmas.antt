@@ -1,10 +1,10 @@
 -- Numbers in their ranges, and commands of another kind.
-use Rattle.std.proofs.Common.{◌≡◌, ◌∙◌, ◌+◌, ◌*◌, ◌≤◌, ◌<◌, ◌&&◌, ℕ, Bool, cond, true, false, refl, sym, ap, subst, List, [], ◌∷◌, length, codes, nat_le, Option, Some, None, option_map, true≢false, arith, leb-true}
+use Rattle.std.proofs.Common.{◌≡◌, ◌+◌, ◌*◌, ◌≤◌, ◌&&◌, ℕ, Bool, cond, true, false, refl, ap, subst, List, [], ◌∷◌, length, codes, nat_le, Option, Some, None, option_map, arith, leb-true}
 use Rattle.std.specs.Borrow.{Bor}
 use Rattle.std.specs.Prelude.{bytes_eq}
 use Rattle.std.specs.Str.Parse.{digits_value}
-use Rattle.vg_words.specs.Command.{Text, Run, Command, Runs, Loads, built, command, is_built, is_decimal, load_of, nothing_said, number_of, number_or, run_by, run_of, run_over, said_from, texts, value_in, ◌>>=◌}
-use Rattle.vg_words.specs.Ranges.{IsInRange, RunsInRange}
+use Rattle.vg_words.specs.Command.{Text, Run, Check, Checks, Command, Runs, Loads, check_of, is_decimal, load_of, nothing_said, number_of, number_or, run_by, run_of, run_over, said_from, texts, value_in, ◌>>=◌}
+use Rattle.vg_words.specs.Ranges.{IsInRange, IsLoadInRange, LoadsInRange, RunsInRange}
 use Rattle.vg_words.proofs.TextLemmas.{and_both, none_is_not_some, some_is}
 use Rattle.vg_words.proofs.ParseLemmas.{passed}
 
@@ -88,19 +88,60 @@ not_a_load (first ∷ second ∷ third ∷ []) run e =
     cc
 not_a_load (first ∷ second ∷ third ∷ fourth ∷ words) run e = none_is_not_some (Runs run) e
 
+not_a_check : (o : Option Check) (run : Run) → option_map Checks o ≡ Some (Runs run) → ⊥
+not_a_check None run e = none_is_not_some (Runs run) e
+not_a_check (Some check) run e = let same : Checks check ≡ Runs run = some_is _ _ e in cc
+
 pub runs-in_range : RunsInRange
 runs-in_range [] run e = absurd (none_is_not_some (Runs run) e)
-runs-in_range (word ∷ words) run e = by_first (bytes_eq word (codes "run")) (bytes_eq word (codes "load")) e
+runs-in_range (word ∷ words) run e = by_first (bytes_eq word (codes "run")) (bytes_eq word (codes "load")) (bytes_eq word (codes "check")) e
   where
-    by_first : (a b : Bool) → cond a (option_map Runs (run_of words)) (cond b (load_of words) None) ≡ Some (Runs run) → IsInRange run
-    by_first true b h = run_of-in_range words run (the_run (run_of words) run h)
-    by_first false true h = absurd (not_a_load words run h)
-    by_first false false h = absurd (none_is_not_some (Runs run) h)
+    by_first : (a b c : Bool) → cond a (option_map Runs (run_of words)) (cond b (load_of words) (cond c (option_map Checks (check_of words)) None)) ≡ Some (Runs run)
+        → IsInRange run
+    by_first true b c h = run_of-in_range words run (the_run (run_of words) run h)
+    by_first false true c h = absurd (not_a_load words run h)
+    by_first false false true h = absurd (not_a_check (check_of words) run h)
+    by_first false false false h = absurd (none_is_not_some (Runs run) h)
 
--- a command that is built is the one that was asked for
-pub built-some : (o : Option Command) (command : Command) → built o ≡ Some command → (o ≡ Some command) × (is_built command ≡ true)
-built-some None command e = absurd (none_is_not_some command e)
-built-some (Some asked) command e =
-    let test = passed (is_built asked) (Some asked) command e in
-    let same : asked ≡ command = some_is _ _ test.1 in
-    (test.1, subst (λ (c : Command). is_built c ≡ true) same test.0)
+-- ---- loads
+
+load_of-in_range : (words : List Text) (seed packets workers : ℕ) → load_of words ≡ Some (Loads seed packets workers) → IsLoadInRange packets workers
+load_of-in_range [] seed packets workers e = absurd (none_is_not_some (Loads seed packets workers) e)
+load_of-in_range (first ∷ []) seed packets workers e = absurd (none_is_not_some (Loads seed packets workers) e)
+load_of-in_range (first ∷ second ∷ []) seed packets workers e = absurd (none_is_not_some (Loads seed packets workers) e)
+load_of-in_range (first ∷ second ∷ third ∷ []) seed packets workers e =
+    let a_seed = some_behind (number_of 0 18446744073709551615 first) _ (Loads seed packets workers) e in
+    let some_packets = some_behind (number_of 1 65536 second) _ (Loads seed packets workers) a_seed.2 in
+    let some_workers = some_behind (number_of 1 8 third) _ (Loads seed packets workers) some_packets.2 in
+    let same : Loads a_seed.0 some_packets.0 some_workers.0 ≡ Loads seed packets workers = some_is _ _ some_workers.2 in
+    let same_packets : some_packets.0 ≡ packets = cc in
+    let same_workers : some_workers.0 ≡ workers = cc in
+    let packets_within = number-in_range 1 65536 some_packets.0 second some_packets.1 in
+    let workers_within = number-in_range 1 8 some_workers.0 third some_workers.1 in
+    record {
+      some_packets = subst (λ (n : ℕ). 1 ≤ n) same_packets packets_within.0;
+      few_packets = subst (λ (n : ℕ). n ≤ 65536) same_packets packets_within.1;
+      some_workers = subst (λ (n : ℕ). 1 ≤ n) same_workers workers_within.0;
+      few_workers = subst (λ (n : ℕ). n ≤ 8) same_workers workers_within.1;
+    }
+load_of-in_range (first ∷ second ∷ third ∷ fourth ∷ words) seed packets workers e = absurd (none_is_not_some (Loads seed packets workers) e)
+
+no_run : (o : Option Run) (seed packets workers : ℕ) → option_map Runs o ≡ Some (Loads seed packets workers) → ⊥
+no_run None seed packets workers e = none_is_not_some (Loads seed packets workers) e
+no_run (Some run) seed packets workers e = let same : Runs run ≡ Loads seed packets workers = some_is _ _ e in cc
+
+no_check : (o : Option Check) (seed packets workers : ℕ) → option_map Checks o ≡ Some (Loads seed packets workers) → ⊥
+no_check None seed packets workers e = none_is_not_some (Loads seed packets workers) e
+no_check (Some check) seed packets workers e = let same : Checks check ≡ Loads seed packets workers = some_is _ _ e in cc
+
+pub loads-in_range : LoadsInRange
+loads-in_range [] seed packets workers e = absurd (none_is_not_some (Loads seed packets workers) e)
+loads-in_range (word ∷ words) seed packets workers e = by_first (bytes_eq word (codes "run")) (bytes_eq word (codes "load")) (bytes_eq word (codes "check")) e
+  where
+    by_first : (a b c : Bool)
+        → cond a (option_map Runs (run_of words)) (cond b (load_of words) (cond c (option_map Checks (check_of words)) None)) ≡ Some (Loads seed packets workers)
+        → IsLoadInRange packets workers
+    by_first true b c h = absurd (no_run (run_of words) seed packets workers h)
+    by_first false true c h = load_of-in_range words seed packets workers h
+    by_first false false true h = absurd (no_check (check_of words) seed packets workers h)
+    by_first false false false h = absurd (none_is_not_some (Loads seed packets workers) h)

@@ -1,19 +1,14 @@
 -- A parse of `run` holds what the words so far say.
-use Rattle.std.proofs.Common.{◌≡◌, ◌∙◌, ◌+◌, ◌<◌, ◌≤◌, ◌&&◌, ◌||◌, ◌⊎◌, ◌==◌, ℕ, zero, suc, Bool, cond, true, false, not, refl, sym, ap, ap₂, subst, List, [], ◌∷◌, ◌++◌, length, codes, Option, Some, None, option_map, inl, inr, true≢false, arith}
+use Rattle.std.proofs.Common.{◌≡◌, ◌∙◌, ◌||◌, Bool, true, false, refl, sym, ap, subst, List, [], ◌∷◌, ◌++◌, codes, Some, inl, inr, true≢false}
 use Rattle.std.specs.Prelude.{is_some, slice_get}
-use Rattle.std.specs.List.{find, list_all, list_any}
+use Rattle.std.specs.List.{list_all}
 use Rattle.std.specs.Str.{bytes_eq}
 use Rattle.clap.specs.Facts.{explicit_source}
 use Rattle.clap.specs.Takes.{is_given as was_given}
-use Rattle.clap.specs.Walk.{Row, Rule, Walk, arg_by_index, first_of, has_row, idle, option, walked}
-use Rattle.clap.specs.Simple.{Shape}
-use Rattle.clap.specs.Kinds.{Kinds}
-use Rattle.clap.specs.Faults.{turn_fault}
-use Rattle.clap.specs.declared.error.kind.ErrorKind.TheVariants as kind
-use Rattle.vg_words.specs.Command.{Text, Given, Said, is_plain, is_option_name, option_in, is_given, value_in, with_name, with_value, with_option, with_option_word, with_word_after, with_word}
-use Rattle.vg_words.proofs.TextLemmas.{bytes_eq-refl, bytes_eq-true, and_both, by_option, not_true, or_cases, true_or_false, some_is, none_is_not_some}
-use Rattle.vg_words.proofs.RowLemmas.{IsSingle, row, first_of-here, first_of-other, has_row-snoc}
-use Rattle.vg_words.proofs.StepLemmas.{IsFlag, IsFresh, IsOption, IsPosition, Last, all_rows, held, pending_of, walk_at, option-flag, name-walked, name-fault, stray-fault, option-walked, option-fault, given-walked, given-fault, value-walked, value-fault}
+use Rattle.clap.specs.Walk.{Row, Rule, first_of, has_row}
+use Rattle.vg_words.specs.Command.{Text, Given, is_option_name, is_given, value_in}
+use Rattle.vg_words.proofs.TextLemmas.{bytes_eq-refl, bytes_eq-true, and_both, by_option, true_or_false}
+use Rattle.vg_words.proofs.RowLemmas.{row, first_of-here, first_of-other, has_row-snoc}
 
 -- ---- options, one more
 
@@ -101,13 +96,13 @@ pub other_than_names : (name : Text) → is_option_name name ≡ true
     → (bytes_eq name (codes "capture") ≡ false) × (bytes_eq name (codes "script") ≡ false) × (bytes_eq name (codes "tx") ≡ false)
 other_than_names = by_option
     (λ name. (bytes_eq name (codes "capture") ≡ false) × (bytes_eq name (codes "script") ≡ false) × (bytes_eq name (codes "tx") ≡ false))
-    (refl, refl, refl) (refl, refl, refl) (refl, refl, refl) (refl, refl, refl) (refl, refl, refl) (refl, refl, refl)
+    (refl, refl, refl) (refl, refl, refl) (refl, refl, refl) (refl, refl, refl) (refl, refl, refl) (refl, refl, refl) (refl, refl, refl)
 
 pub other_than_options : (name : Text) → is_option_name name ≡ true
     → (bytes_eq (codes "capture") name ≡ false) × (bytes_eq (codes "script") name ≡ false) × (bytes_eq (codes "tx") name ≡ false)
 other_than_options = by_option
     (λ name. (bytes_eq (codes "capture") name ≡ false) × (bytes_eq (codes "script") name ≡ false) × (bytes_eq (codes "tx") name ≡ false))
-    (refl, refl, refl) (refl, refl, refl) (refl, refl, refl) (refl, refl, refl) (refl, refl, refl) (refl, refl, refl)
+    (refl, refl, refl) (refl, refl, refl) (refl, refl, refl) (refl, refl, refl) (refl, refl, refl) (refl, refl, refl) (refl, refl, refl)
 
 -- an option more
 pub agrees-value : (rows : List Row) (names : List Text) (options : List Given) (a : Rule) (value : Text) → Agrees rows names options

@@ -1,17 +1,15 @@
 -- One word of a parse of `run`, by what it says.
-use Rattle.std.proofs.Common.{◌≡◌, ◌∙◌, ◌+◌, ◌<◌, ◌≤◌, ◌&&◌, ◌||◌, ◌==◌, ℕ, zero, suc, Bool, cond, true, false, not, refl, sym, ap, ap₂, subst, List, [], ◌∷◌, ◌++◌, length, codes, Option, Some, None, option_map, inl, inr, true≢false, eq-eqb, arith}
-use Rattle.std.specs.List.{find, list_any}
+use Rattle.std.proofs.Common.{◌≡◌, ◌&&◌, ◌==◌, ℕ, suc, Bool, cond, true, false, refl, sym, subst, List, [], ◌∷◌, ◌++◌, Option, Some, None, option_map, true≢false}
 use Rattle.std.specs.Str.{bytes_eq}
 use Rattle.std.proofs.lemmas.Bool.{eqb-true}
 use Rattle.clap.specs.Lexer.{long_of, short_of}
-use Rattle.clap.specs.Walk.{Held, Outcome, Row, Rule, Step, Waiting, Walk, arg_by_id, arg_by_index, arg_by_long, has_row, idle, is_multiple, is_pending, next_position, option, settled_rows, takes_several, takes_values, walked}
+use Rattle.clap.specs.Walk.{Held, Row, Rule, Waiting, Walk, arg_by_index, arg_by_long, has_row, idle, is_multiple, is_pending, next_position, option, settled_rows, takes_several, takes_values, walked}
 use Rattle.clap.specs.Simple.{Shape}
-use Rattle.clap.specs.Kinds.{Kinds, or_else}
 use Rattle.clap.specs.Faults.{settle_fault, turn_fault}
 use Rattle.clap.specs.declared.error.kind.ErrorKind.TheVariants as kind
-use Rattle.vg_words.specs.Command.{Text, is_plain, is_option_name, option_in, parted}
-use Rattle.vg_words.proofs.TextLemmas.{bytes_eq-refl, bytes_eq-true, and_both, not_true, or_cases, true_or_false, some_is, none_is_not_some}
-use Rattle.vg_words.proofs.RowLemmas.{IsSingle, row, use-once, used-once}
+use Rattle.vg_words.specs.Command.{Text, is_plain, is_option_name, option_in, parted, yes}
+use Rattle.vg_words.proofs.TextLemmas.{bytes_eq-refl, and_both, not_true, some_is, none_is_not_some}
+use Rattle.vg_words.proofs.RowLemmas.{IsSingle, IsSwitch, row, switch-once, switched-once, use-once, used-once}
 
 -- ---- what is held between two words
 
@@ -177,3 +175,26 @@ pub value-fault : (s : Shape) (rows : List Row) (position : ℕ) (a : Rule) (wor
 value-fault s rows position a word plain at =
     let flag = plain-no_flag word plain in
     rw (flag.two, flag.long, flag.short) refl
+
+-- ---- a flag
+
+-- the argument for a flag
+pub record IsFlagRule (rules : List Rule) (a : Rule) : Type 0 where
+  pub long : arg_by_long rules a.id ≡ Some a
+  pub switch : IsSwitch a
+  pub no_value : takes_values a ≡ false
+
+-- a flag is used at once
+pub flag-walked : (s : Shape) (rows : List Row) (last : Last) (position : ℕ) (a : Rule) (word : Text) → IsFlag word (a.id, None)
+    → IsFresh s.rules rows last → IsFlagRule s.rules a → has_row a.id (all_rows rows last) ≡ false
+    → walked s.rules [] (walk_at (held rows (pending_of last)) idle position) word
+    ≡ walk_at (held (all_rows rows last ++ row a yes ∷ []) None) idle position
+unfolding walked
+flag-walked s rows last position a word flag fresh at none =
+    rw (flag.two, flag.long, at.long, at.no_value, settled_rows-fresh s.rules rows last fresh, switched-once a (all_rows rows last) at.switch none) refl
+
+pub flag-fault : (s : Shape) (rows : List Row) (last : Last) (position : ℕ) (a : Rule) (word : Text) → s.args_override_self ≡ false
+    → IsFlag word (a.id, None) → IsFresh s.rules rows last → IsFlagRule s.rules a → has_row a.id (all_rows rows last) ≡ false
+    → turn_fault s [] (walk_at (held rows (pending_of last)) idle position) word ≡ []
+flag-fault s rows last position a word again flag fresh at none =
+    rw (flag.two, flag.long, at.long, at.no_value, again, settle-fresh s.rules rows last fresh, settled_rows-fresh s.rules rows last fresh, switch-once a (all_rows rows last) at.switch none) refl

@@ -1,11 +1,10 @@
 -- Texts that are compared, and searches by them.
-use Rattle.std.proofs.Common.{◌≡◌, ◌∙◌, ◌&&◌, ◌||◌, ◌⊎◌, ◌==◌, ℕ, Bool, cond, true, false, not, refl, sym, ap, ap₂, subst, arith, suc, ◌<◌, length, List, [], ◌∷◌, ◌++◌, codes, Option, Some, None, option_map, inl, inr, true≢false, eq-eqb}
-use Rattle.std.specs.Prelude.{is_some}
-use Rattle.std.specs.List.{find, list_any, position_or_len, before_first, after_first}
+use Rattle.std.proofs.Common.{◌≡◌, ◌∙◌, ◌&&◌, ◌||◌, ◌⊎◌, ◌==◌, ℕ, Bool, cond, true, false, not, refl, sym, ap, ap₂, subst, arith, suc, ◌<◌, length, [], ◌∷◌, codes, Option, Some, None, inl, inr, true≢false, eq-eqb}
+use Rattle.std.specs.List.{list_any, position_or_len, before_first, after_first}
 use Rattle.std.proofs.lemmas.List.{take_all}
 use Rattle.std.specs.Str.{bytes_eq}
 use Rattle.std.proofs.lemmas.Bool.{eqb-true}
-use Rattle.vg_words.specs.Command.{Text, Given, option_names, is_option_name, is_given, value_in, parted, option_in}
+use Rattle.vg_words.specs.Command.{Text, is_option_name, parted, option_in}
 
 pub or_cases : (a b : Bool) → (a || b) ≡ true → (a ≡ true) ⊎ (b ≡ true)
 or_cases true b h = inl refl
@@ -53,21 +52,24 @@ same_name P name known p e = subst P (bytes_eq-true known name e) p
 
 -- what holds of each of the options' names holds of an option's name
 pub by_option : (P : Text → Type 0) → P (codes "workers") → P (codes "buffers") → P (codes "queue") → P (codes "burst") → P (codes "trace")
-    → P (codes "turns") → (name : Text) → is_option_name name ≡ true → P name
-by_option P workers buffers queue burst trace turns name h =
-    elim (or_cases (is_it name (codes "workers")) (is_it name (codes "buffers") || (is_it name (codes "queue") || (is_it name (codes "burst") || (is_it name (codes "trace") || (is_it name (codes "turns") || false))))) h) [
+    → P (codes "turns") → P (codes "hold") → (name : Text) → is_option_name name ≡ true → P name
+by_option P workers buffers queue burst trace turns hold name h =
+    elim (or_cases (is_it name (codes "workers")) (is_it name (codes "buffers") || (is_it name (codes "queue") || (is_it name (codes "burst") || (is_it name (codes "trace") || (is_it name (codes "turns") || (is_it name (codes "hold") || false)))))) h) [
       | inl e ↦ same_name P name (codes "workers") workers e
-      | inr h1 ↦ elim (or_cases (is_it name (codes "buffers")) (is_it name (codes "queue") || (is_it name (codes "burst") || (is_it name (codes "trace") || (is_it name (codes "turns") || false)))) h1) [
+      | inr h1 ↦ elim (or_cases (is_it name (codes "buffers")) (is_it name (codes "queue") || (is_it name (codes "burst") || (is_it name (codes "trace") || (is_it name (codes "turns") || (is_it name (codes "hold") || false))))) h1) [
         | inl e ↦ same_name P name (codes "buffers") buffers e
-        | inr h2 ↦ elim (or_cases (is_it name (codes "queue")) (is_it name (codes "burst") || (is_it name (codes "trace") || (is_it name (codes "turns") || false))) h2) [
+        | inr h2 ↦ elim (or_cases (is_it name (codes "queue")) (is_it name (codes "burst") || (is_it name (codes "trace") || (is_it name (codes "turns") || (is_it name (codes "hold") || false)))) h2) [
           | inl e ↦ same_name P name (codes "queue") queue e
-          | inr h3 ↦ elim (or_cases (is_it name (codes "burst")) (is_it name (codes "trace") || (is_it name (codes "turns") || false)) h3) [
+          | inr h3 ↦ elim (or_cases (is_it name (codes "burst")) (is_it name (codes "trace") || (is_it name (codes "turns") || (is_it name (codes "hold") || false))) h3) [
             | inl e ↦ same_name P name (codes "burst") burst e
-            | inr h4 ↦ elim (or_cases (is_it name (codes "trace")) (is_it name (codes "turns") || false) h4) [
+            | inr h4 ↦ elim (or_cases (is_it name (codes "trace")) (is_it name (codes "turns") || (is_it name (codes "hold") || false)) h4) [
               | inl e ↦ same_name P name (codes "trace") trace e
-              | inr h5 ↦ elim (or_cases (is_it name (codes "turns")) false h5) [
+              | inr h5 ↦ elim (or_cases (is_it name (codes "turns")) (is_it name (codes "hold") || false) h5) [
                 | inl e ↦ same_name P name (codes "turns") turns e
-                | inr h6 ↦ absurd (true≢false (sym h6))
+                | inr h6 ↦ elim (or_cases (is_it name (codes "hold")) false h6) [
+                  | inl e ↦ same_name P name (codes "hold") hold e
+                  | inr h7 ↦ absurd (true≢false (sym h7))
+                ]
               ]
             ]
           ]

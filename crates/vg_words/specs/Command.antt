@@ -1,5 +1,5 @@
 -- The words of the command line, and what they ask for (this project's profile).
-use Rattle.std.specs.Prelude.{ℕ, ◌+◌, ◌*◌, Bool, true, false, not, ◌&&◌, ◌||◌, ◌==◌, nat_lt, nat_le, List, [], ◌∷◌, ◌++◌, length, map, slice_index, codes, bytes_eq, find, Option, Some, None, is_some, option_map, if◌then◌else◌}
+use Rattle.std.specs.Prelude.{ℕ, ◌+◌, ◌*◌, Bool, false, not, ◌&&◌, ◌||◌, ◌==◌, nat_lt, nat_le, List, [], ◌∷◌, ◌++◌, length, map, slice_index, codes, bytes_eq, find, Option, Some, None, is_some, option_map, if◌then◌else◌}
 use Rattle.std.specs.Borrow.{Bor}
 use Rattle.std.specs.Char.{is_ascii_digit}
 use Rattle.std.specs.List.{list_all, list_any, before_first, after_first}
@@ -17,9 +17,18 @@ pub record Run : Type 0 where
   pub burst : ℕ
   pub trace : ℕ
   pub turns : Option Text
+  pub hold : Bool
   pub capture : Text
   pub script : Text
   pub tx : Text
+
+-- a check of what a run put out: the slots of a queue, and the files by their names
+pub record Check : Type 0 where
+  pub queue : ℕ
+  pub capture : Text
+  pub script : Text
+  pub tx : Text
+  pub report : Text
 
 -- what words ask for
 pub data Command : Type 0 where
@@ -27,6 +36,8 @@ pub data Command : Type 0 where
   Runs : Run → Command
   -- so many random packets are sent through two graphs, and one of them by so many workers
   Loads : (seed packets workers : ℕ) → Command
+  -- a report and a savefile are compared with what the runs put out that there may be
+  Checks : Check → Command
 
 -- what follows a value; none stays none
 infixl 10 ◌>>=◌
@@ -69,10 +80,18 @@ option_in word = option_map parted (behind_hyphens word)
 -- ---- the options of a run
 
 abbrev pub option_names : List Text
-option_names = codes "workers" ∷ codes "buffers" ∷ codes "queue" ∷ codes "burst" ∷ codes "trace" ∷ codes "turns" ∷ []
+option_names = codes "workers" ∷ codes "buffers" ∷ codes "queue" ∷ codes "burst" ∷ codes "trace" ∷ codes "turns" ∷ codes "hold" ∷ []
 
 abbrev pub is_option_name : Text → Bool
 is_option_name name = list_any (λ known. bytes_eq known name) option_names
+
+-- an option that has no value: a flag
+abbrev pub is_flag : Text → Bool
+is_flag name = bytes_eq name (codes "hold")
+
+-- what a flag says that is given
+abbrev pub yes : Text
+yes = codes "true"
 
 -- an option's name with its value
 abbrev pub Given : Type 0
@@ -98,10 +117,10 @@ with_name said word = record said { names = said.names ++ word ∷ [] }
 abbrev pub with_value : Said → Text → Text → Said
 with_value said name value = record said { options = said.options ++ (name, value) ∷ []; waits = None }
 
--- an option with its value in one word, or alone
+-- an option with its value in one word, which a flag has not, or alone
 abbrev pub with_option : Said → Text → Option Text → Option Said
-with_option said name (Some value) = if is_plain value then Some (with_value said name value) else None
-with_option said name None = Some (record said { waits = Some name })
+with_option said name (Some value) = if not (is_flag name) && is_plain value then Some (with_value said name value) else None
+with_option said name None = if is_flag name then Some (with_value said name yes) else Some (record said { waits = Some name })
 
 -- a word that begins with `-` is an option that doesn't stand before
 abbrev pub with_option_word : Said → Option (Text × Option Text) → Option Said
@@ -138,6 +157,11 @@ abbrev pub number_or : (default least most : ℕ) → Option Text → Option ℕ
 number_or default least most (Some value) = number_of least most value
 number_or default least most None = Some default
 
+-- a flag is given
+abbrev pub is_set : Option Text → Bool
+is_set (Some value) = bytes_eq value yes
+is_set None = false
+
 -- the run over these files, by what value each option has
 abbrev pub run_by : (Text → Option Text) → (capture script tx : Text) → Option Run
 run_by value capture script tx = do
@@ -153,6 +177,7 @@ run_by value capture script tx = do
     burst = burst;
     trace = trace;
     turns = value (codes "turns");
+    hold = is_set (value (codes "hold"));
     capture = capture;
     script = script;
     tx = tx;
@@ -180,25 +205,75 @@ load_of (first ∷ second ∷ third ∷ []) = do
   Some (Loads seed packets workers)
 load_of words = None
 
+-- ---- a check
+
+-- what words behind `check` say so far: the names in their order, the value of `--queue`, and whether it is the next word
+pub record CheckSaid : Type 0 where
+  pub names : List Text
+  pub queue : Option Text
+  pub waits : Bool
+
+abbrev pub no_check_said : CheckSaid
+no_check_said = record { names = []; queue = None; waits = false }
+
+-- a name or a value
+abbrev pub with_check_name : CheckSaid → Text → CheckSaid
+with_check_name said word =
+    if said.waits then record said { queue = Some word; waits = false } else record said { names = said.names ++ word ∷ [] }
+
+-- the value in an option's word, where it is plain or the next word
+abbrev pub plain_or_next : Option Text → Option (Option Text)
+plain_or_next (Some value) = if is_plain value then Some (Some value) else None
+plain_or_next None = Some None
+
+-- a word `--queue=VALUE`, with its value, or `--queue`
+abbrev pub queue_of : Option (Text × Option Text) → Option (Option Text)
+queue_of (Some p) = if bytes_eq p.0 (codes "queue") then plain_or_next p.1 else None
+queue_of None = None
+
+abbrev pub queue_in : Text → Option (Option Text)
+queue_in word = queue_of (option_in word)
+
+abbrev pub with_queue : CheckSaid → Option Text → CheckSaid
+with_queue said value = record said { queue = value; waits = not (is_some value) }
+
+-- one word more: a word that begins with `-` is `--queue`, once, and isn't its value
+abbrev pub with_check_word : CheckSaid → Text → Option CheckSaid
+with_check_word said word =
+    if is_plain word then Some (with_check_name said word)
+    else if said.waits || is_some said.queue then None
+    else option_map (with_queue said) (queue_in word)
+
+-- words more, to the end, where `--queue` doesn't wait for its value
+abbrev pub check_from : CheckSaid → List Text → Option CheckSaid
+check_from said [] = if said.waits then None else Some said
+check_from said (word ∷ words) = do
+  next ← with_check_word said word
+  check_from next words
+
+-- there are exactly four names
+abbrev pub check_over : Option Text → List Text → Option Check
+check_over value (capture ∷ script ∷ tx ∷ report ∷ []) = do
+  queue ← number_or 64 1 256 value
+  Some (record { queue = queue; capture = capture; script = script; tx = tx; report = report })
+check_over value names = None
+
+-- the check that the words behind `check` ask for
+abbrev pub check_of : List Text → Option Check
+check_of words = do
+  said ← check_from no_check_said words
+  check_over said.queue said.names
+
 -- ---- commands
 
--- what words ask for: the first word is `run` or `load`
+-- what words ask for: the first word is `run`, `load` or `check`
 abbrev pub command : List Text → Option Command
 command [] = None
 command (word ∷ words) =
     if bytes_eq word (codes "run") then option_map Runs (run_of words)
     else if bytes_eq word (codes "load") then load_of words
+    else if bytes_eq word (codes "check") then option_map Checks (check_of words)
     else None
-
--- what is built so far: runs
-abbrev pub is_built : Command → Bool
-is_built (Runs run) = true
-is_built (Loads seed packets workers) = false
-
--- a command, where it is built
-abbrev pub built : Option Command → Option Command
-built (Some command) = if is_built command then Some command else None
-built None = None
 
 -- the texts behind references
 abbrev pub texts : List (Bor Text) → List Text

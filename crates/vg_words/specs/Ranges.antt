@@ -1,6 +1,6 @@
 -- The ranges of a run's options.
-use Rattle.std.specs.Prelude.{◌≡◌, ℕ, ◌+◌, ◌*◌, ◌≤◌, List, Option, Some}
-use Rattle.vg_words.specs.Command.{Text, Run, Command, Runs, command}
+use Rattle.std.specs.Prelude.{◌≡◌, ℕ, ◌+◌, ◌*◌, ◌≤◌, List, Some}
+use Rattle.vg_words.specs.Command.{Text, Run, Loads, Runs, command}
 
 pub record IsInRange (run : Run) : Type 0 where
   pub some_workers : 1 ≤ run.workers
@@ -16,3 +16,14 @@ pub record IsInRange (run : Run) : Type 0 where
 -- what words ask to run is in its ranges
 abbrev pub RunsInRange : Type 0
 RunsInRange = (words : List Text) (run : Run) → command words ≡ Some (Runs run) → IsInRange run
+
+-- a load is in its ranges
+pub record IsLoadInRange (packets workers : ℕ) : Type 0 where
+  pub some_packets : 1 ≤ packets
+  pub few_packets : packets ≤ 65536
+  pub some_workers : 1 ≤ workers
+  pub few_workers : workers ≤ 8
+
+-- what words ask to load is in its ranges
+abbrev pub LoadsInRange : Type 0
+LoadsInRange = (words : List Text) (seed packets workers : ℕ) → command words ≡ Some (Loads seed packets workers) → IsLoadInRange packets workers

@@ -1,16 +1,18 @@
 //! What is checked of the words behind `run` before a parser reads them.
 ghost use Rattle.std.specs.Prelude.{◌≡◌, IfOk, false, [], option_map};
-ghost use Rattle.vg_words.specs.Command.{is_plain as is_plain_text, is_option_name as is_name_of_option, option_in as option_in_text, texts};
+ghost use Rattle.vg_words.specs.Command.{is_plain as is_plain_text, is_flag as is_name_of_flag, is_option_name as is_name_of_option, option_in as option_in_text, texts};
 ghost use Rattle.vg_words.specs.Checks.{are_well_formed as pass_checks, is_used as is_used_in, new_option as new_option_in};
 
 use std::alloc::Global;
 use vg_model::Memory;
 
 /// The options of a run.
-const OPTIONS: [&str; 6] = ["workers", "buffers", "queue", "burst", "trace", "turns"];
+const OPTIONS: [&str; 7] = [
+    "workers", "buffers", "queue", "burst", "trace", "turns", "hold",
+];
 
 /// Whether the word may be a name or a value: it isn't empty, and begins with no `-`.
-fn is_plain(word: &str) -> bool
+pub fn is_plain(word: &str) -> bool
     ensures { result ≡ is_plain_text word.now }
 {
     match word.as_bytes() {
@@ -26,6 +28,13 @@ fn is_option_name(name: &str) -> bool
     OPTIONS.iter().any(|known| *known == name)
 }
 
+/// Whether the option of this name is a flag: it has no value.
+fn is_flag(name: &str) -> bool
+    ensures { result ≡ is_name_of_flag name.now }
+{
+    name == "hold"
+}
+
 /// Whether the name is among those of the options that stand before.
 fn is_used(used: &[&str], name: &str) -> bool
     ensures { result ≡ is_used_in (texts used.now) name.now }
@@ -34,7 +43,7 @@ fn is_used(used: &[&str], name: &str) -> bool
 }
 
 /// A word `--NAME` or `--NAME=VALUE`, parted at its first `=`.
-fn option_in(word: &str) -> Option<(&str, Option<&str>)>
+pub fn option_in(word: &str) -> Option<(&str, Option<&str>)>
     ensures { option_map (λ p. (p.0.now, option_map (λ value. value.now) p.1)) result ≡ option_in_text word.now }
 {
     let text = word.strip_prefix("--")?;
@@ -53,9 +62,9 @@ fn new_option<'a>(used: &[&str], word: &'a str) -> Option<(&'a str, bool)>
         return None;
     }
     match value {
-        Some(text) if is_plain(text) => Some((name, false)),
+        Some(text) if !is_flag(name) && is_plain(text) => Some((name, false)),
         Some(_) => None,
-        None => Some((name, true)),
+        None => Some((name, !is_flag(name))),
     }
 }
 

@@ -15,12 +15,29 @@ pub struct Run<'a> {
     pub trace: u32,
     /// The name of the file that says the workers' turns, where there is one.
     pub turns: Option<&'a str>,
+    /// Whether frames that find a queue full are held back, and none of their packets is dropped.
+    pub hold: bool,
     /// The name of the savefile that packets are read from.
     pub capture: &'a str,
     /// The name of the graph script.
     pub script: &'a str,
     /// The name of the savefile that transmitted packets are written to.
     pub tx: &'a str,
+}
+
+/// A check: a report and a savefile are compared with what the runs put out that there may be.
+#[derive(Clone, Copy, Debug)]
+pub struct Check<'a> {
+    /// The number of slots of a queue between two workers, 1 to 256.
+    pub queue: u64,
+    /// The name of the savefile that packets were read from.
+    pub capture: &'a str,
+    /// The name of the graph script.
+    pub script: &'a str,
+    /// The name of the savefile of the transmitted packets.
+    pub tx: &'a str,
+    /// The name of the report.
+    pub report: &'a str,
 }
 
 /// What the words of the command line ask for.
@@ -37,4 +54,6 @@ pub enum Command<'a> {
         /// The number of workers, 1 to 8.
         workers: u8,
     },
+    /// `check`: a report and a savefile are compared with what the runs put out that there may be.
+    Check(Check<'a>),
 }

@@ -1,15 +1,16 @@
 //! Reading the words of the command line.
 ghost use Rattle.std.specs.Prelude.{◌≡◌, ◌<◌, IfOk, MatchOption, [], false, option_map, length, drop};
-ghost use Rattle.vg_words.specs.Command.{command, built, is_built as is_built_command, load_of, run_of as run_in, texts};
-ghost use Rattle.vg_words.specs.Parser.{option_rule, name_rule, run_app, run_found};
+ghost use Rattle.vg_words.specs.Command.{command, is_set as is_given_flag, load_of, run_of as run_in, texts};
+ghost use Rattle.vg_words.specs.Parser.{flag_rule, option_rule, name_rule, run_app, run_found};
 ghost use Rattle.vg_words.specs.Shown.{run_shown, shown};
 ghost use Rattle.clap.specs.Words.{app_of, fault_of, first_value, found_of, matches_of, rows_of, rule_of};
 
+use crate::check_words::read_check;
 use crate::checks::are_well_formed;
 use crate::commands::{Command, Run};
 use crate::numbers::{number, number_or_default};
 use clap::error::ErrorKind;
-use clap::{Arg, ArgMatches, Command as Parser};
+use clap::{Arg, ArgAction, ArgMatches, Command as Parser};
 use std::alloc::{AllocError, Global};
 use vg_model::Memory;
 
@@ -19,6 +20,14 @@ fn an_option<'a>(alloc: Global, name: &'a str) -> Arg<'a>
     ensures local { result.global ≡ false }
 {
     Arg::new(alloc, name).long(name)
+}
+
+/// A flag of a run, `--NAME`.
+fn a_flag<'a>(alloc: Global, name: &'a str) -> Arg<'a>
+    ensures rule { rule_of result ≡ flag_rule name.entry.now }
+    ensures local { result.global ≡ false }
+{
+    Arg::new(alloc, name).long(name).action(ArgAction::SetTrue)
 }
 
 /// The name of a file of a run.
@@ -41,6 +50,7 @@ fn run_parser<'a>(alloc: Global) -> Result<Parser<'a>, AllocError>
         .arg(an_option(alloc, "burst"))?
         .arg(an_option(alloc, "trace"))?
         .arg(an_option(alloc, "turns"))?
+        .arg(a_flag(alloc, "hold"))?
         .arg(a_name(alloc, "capture"))?
         .arg(a_name(alloc, "script"))?
         .arg(a_name(alloc, "tx"))
@@ -60,6 +70,16 @@ fn run_matches<'a>(alloc: Global, words: &'a [&'a str]) -> Result<Option<ArgMatc
             ErrorKind::OutOfMemory => Err(Memory),
             _ => Ok(None),
         },
+    }
+}
+
+/// Whether a flag is given, by its value.
+fn is_set(value: Option<&str>) -> bool
+    ensures { result ≡ is_given_flag (option_map (λ text. text.now) value.entry) }
+{
+    match value {
+        Some(text) => text == "true",
+        None => false,
     }
 }
 
@@ -83,6 +103,7 @@ fn run_of<'a>(matches: &ArgMatches<'a>) -> Option<Run<'a>>
         burst: burst as u32,
         trace: trace as u32,
         turns: matches.get_str("turns"),
+        hold: is_set(matches.get_str("hold")),
         capture,
         script,
         tx,
@@ -122,8 +143,11 @@ fn read_load<'a>(words: &[&str]) -> Option<Command<'a>>
     }
 }
 
-/// What words ask for.
-pub fn read_command<'a>(alloc: Global, words: &'a [&'a str]) -> Result<Option<Command<'a>>, Memory>
+/// What the words after the program's name ask for.
+///
+/// `run` has three names, of a capture, a script and the savefile to be written, and options between them in any order;
+/// `load` has three numbers; `check` has four names and the option `--queue`. None for all other words. The only error is want of memory.
+pub fn read_words<'a>(alloc: Global, words: &'a [&'a str]) -> Result<Option<Command<'a>>, Memory>
     ensures { IfOk result (λ answer. option_map shown answer ≡ command (texts words.entry.now)) }
 {
     let Some((first, others)) = words.split_first() else {
@@ -135,32 +159,8 @@ pub fn read_command<'a>(alloc: Global, words: &'a [&'a str]) -> Result<Option<Co
     if *first == "load" {
         return Ok(read_load(others));
     }
+    if *first == "check" {
+        return Ok(read_check(alloc, others)?.map(Command::Check));
+    }
     Ok(None)
-}
-
-/// Whether what is asked for is built: a run.
-fn is_built(command: &Command<'_>) -> bool
-    ensures { result ≡ is_built_command (shown command.now) }
-{
-    match command {
-        Command::Run(_) => true,
-        Command::Load { .. } => false,
-    }
-}
-
-/// What the words after the program's name ask for, as far as it is built.
-///
-/// `run` has three names, of a capture, a script and the savefile to be written, and options between them in any order;
-/// `load` has three numbers. None for all other words, and also, so far, for `load`. The only error is want of memory.
-pub fn read_words<'a>(alloc: Global, words: &'a [&'a str]) -> Result<Option<Command<'a>>, Memory>
-    ensures { IfOk result (λ answer. option_map shown answer ≡ built (command (texts words.entry.now))) }
-{
-    let Some(command) = read_command(alloc, words)? else {
-        return Ok(None);
-    };
-    if is_built(&command) {
-        Ok(Some(command))
-    } else {
-        Ok(None)
-    }
 }

@@ -1,5 +1,4 @@
-use crate::laws::runs_are_in_range;
-use crate::reading::read_command;
+use crate::laws::{loads_are_in_range, runs_are_in_range};
 use crate::{Command, Run, read_words};
 use std::alloc::Global;
 use std::process::Abort;
@@ -7,15 +6,17 @@ use std::test::Fail;
 
 /// The run that these words ask for.
 fn run_of<'a>(rt: &impl Abort, alloc: Global, words: &'a [&'a str]) -> Result<Run<'a>, Fail> {
-    match read_command(alloc, words)?.expect(rt, "a command") {
+    match read_words(alloc, words)?.expect(rt, "a command") {
         Command::Run(run) => Ok(run),
         Command::Load { .. } => Err("a load")?,
+        Command::Check(_) => Err("a check")?,
     }
 }
 
 #[test]
 fn names_alone_are_a_plain_run(rt: HostRuntime) -> Result<(), Fail> {
     runs_are_in_range();
+    loads_are_in_range();
     let run = run_of(&rt, rt.alloc(), &["run", "c", "s", "t"])?;
     assert_eq!(rt; run.workers, 1);
     assert_eq!(rt; run.buffers, 4_096);
@@ -59,7 +60,7 @@ fn options_stand_anywhere_behind_run(rt: HostRuntime) -> Result<(), Fail> {
 #[test]
 fn a_load_has_three_numbers(rt: HostRuntime) -> Result<(), Fail> {
     let words = ["load", "18446744073709551615", "65536", "8"];
-    match read_command(rt.alloc(), &words)?.expect(&rt, "a command") {
+    match read_words(rt.alloc(), &words)?.expect(&rt, "a command") {
         Command::Load {
             seed,
             packets,
@@ -70,31 +71,48 @@ fn a_load_has_three_numbers(rt: HostRuntime) -> Result<(), Fail> {
             assert_eq!(rt; workers, 8);
         }
         Command::Run(_) => Err("a run")?,
+        Command::Check(_) => Err("a check")?,
     }
     Ok(())
 }
 
 #[test]
-fn what_is_built_is_read(rt: HostRuntime) -> Result<(), Fail> {
-    let built: [&[&str]; 4] = [
-        &["run", "--workers", "1", "--buffers=512", "c", "s", "t"],
-        &["run", "--workers=2", "--buffers", "768", "c", "s", "t"],
-        &["run", "--workers", "8", "c", "s", "t"],
-        &["run", "--turns", "u", "c", "s", "t"],
+fn a_check_has_four_names_and_a_queue(rt: HostRuntime) -> Result<(), Fail> {
+    let same: [(&[&str], u64); 4] = [
+        (&["check", "c", "s", "t", "r"], 64),
+        (&["check", "--queue", "1", "c", "s", "t", "r"], 1),
+        (&["check", "c", "s", "--queue", "256", "t", "r"], 256),
+        (&["check", "c", "s", "t", "r", "--queue=7"], 7),
     ];
-    for words in built {
-        assert!(rt; read_words(rt.alloc(), words)?.is_some());
+    for (words, queue) in same {
+        match read_words(rt.alloc(), words)?.expect(&rt, "a command") {
+            Command::Check(check) => {
+                assert_eq!(rt; check.queue, queue);
+                assert!(rt; check.capture == "c" && check.script == "s" && check.tx == "t");
+                assert!(rt; check.report == "r");
+            }
+            Command::Run(_) => Err("a run")?,
+            Command::Load { .. } => Err("a load")?,
+        }
     }
-    let others: [&[&str]; 2] = [&["load", "0", "1", "1"], &["run", "c", "s"]];
-    for words in others {
-        assert!(rt; read_words(rt.alloc(), words)?.is_none());
-    }
+    Ok(())
+}
+
+#[test]
+fn frames_are_held_where_it_is_said_once(rt: HostRuntime) -> Result<(), Fail> {
+    let alloc = rt.alloc();
+    assert!(rt; !run_of(&rt, alloc, &["run", "c", "s", "t"])?.hold);
+    assert!(rt; run_of(&rt, alloc, &["run", "--hold", "c", "s", "t"])?.hold);
+    let words = ["run", "--queue=1", "c", "s", "t", "--hold"];
+    let run = run_of(&rt, alloc, &words)?;
+    assert!(rt; run.hold && run.capture == "c" && run.tx == "t");
+    assert_eq!(rt; run.queue, 1);
     Ok(())
 }
 
 #[test]
 fn all_other_words_are_no_command(rt: HostRuntime) -> Result<(), Fail> {
-    let faulty: [&[&str]; 30] = [
+    let faulty: [&[&str]; 40] = [
         &[],
         &["--help"],
         &["help"],
@@ -107,6 +125,16 @@ fn all_other_words_are_no_command(rt: HostRuntime) -> Result<(), Fail> {
         &["run", "-h", "c", "s", "t"],
         &["run", "--help", "c", "s", "t"],
         &["run", "--hold=1", "c", "s", "t"],
+        &["run", "--hold", "--hold", "c", "s", "t"],
+        &["run", "--queue", "--hold", "c", "s", "t"],
+        &["load", "--hold", "0", "1", "1"],
+        &["check"],
+        &["check", "c", "s", "t"],
+        &["check", "c", "s", "t", "r", "u"],
+        &["check", "--hold", "c", "s", "t", "r"],
+        &["check", "--queue=0", "c", "s", "t", "r"],
+        &["check", "--queue=1", "--queue=1", "c", "s", "t", "r"],
+        &["check", "c", "s", "t", "r", "--queue"],
         &["run", "--workers", "9", "c", "s", "t"],
         &["run", "--workers", "2", "--buffers", "767", "c", "s", "t"],
         &["run", "--buffers", "767", "--workers", "2", "c", "s", "t"],
@@ -127,7 +155,7 @@ fn all_other_words_are_no_command(rt: HostRuntime) -> Result<(), Fail> {
         &["load", "18446744073709551616", "1", "1"],
     ];
     for words in faulty {
-        assert!(rt; read_command(rt.alloc(), words)?.is_none());
+        assert!(rt; read_words(rt.alloc(), words)?.is_none());
     }
     Ok(())
 }

@@ -1,7 +1,7 @@
-use Rattle.std.proofs.Common.{◌≡◌, ◌∙◌, sym, ap, ap₂, true, false, rules, drop, List}
+use Rattle.std.proofs.Common.{◌∙◌, sym, ap₂, List}
 use Rattle.vg_words.specs.Command.{Text, texts}
 use Rattle.vg_words.specs.Checks.{are_well_formed}
-use Rattle.vg_words.proofs.CheckLemmas.{next_word, word_at, words_behind, checked-plain, checked-waits, checked-none, checked-option}
+use Rattle.vg_words.proofs.CheckLemmas.{next_word, word_at, words_behind, checked-waits}
 use Rattle.vg_words.proofs.checks.are_well_formed.Goals as goal
 
 pub returns-then-waits : goal.returns-then-waits

@@ -1,7 +1,7 @@
-use Rattle.std.proofs.Common.{◌≡◌, ◌∙◌, ℕ, List, [], ◌∷◌, drop, ap, refl, sym, rules, arith}
+use Rattle.std.proofs.Common.{◌≡◌, ◌∙◌, ℕ, List, ◌∷◌, ap, sym, arith}
 use Rattle.std.specs.Prelude.{Some, None}
 use Rattle.std.proofs.lemmas.Str.Pattern.{split_once_first}
-use Rattle.vg_words.proofs.TextLemmas.{option_in-behind, option_in-none, parted-none, parted-some}
+use Rattle.vg_words.proofs.TextLemmas.{option_in-behind, parted-none}
 use Rattle.vg_words.proofs.checks.option_in.Goals as goal
 
 pub returns-in-None : goal.returns-in-None
