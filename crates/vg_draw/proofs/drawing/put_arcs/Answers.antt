@@ -1,0 +1,8 @@
+use Rattle.vg_draw.specs.Drawing.{arc_lines}
+use Rattle.vg_draw.proofs.LineLemmas.{node_at, one_more_arcs}
+use Rattle.vg_draw.proofs.drawing.put_arcs.Goals as goal
+
+pub loop-number-preserved : goal.loop-number-preserved
+loop-number-preserved c =
+    one_more_arcs (arc_lines c.args.report.now) c.args.graph.now c.loop-number.number c.node_name.result.now c.kind-kind.result c.args.out.now.items _ _
+    (node_at c.args.graph.now.nodes c.loop-number.number _ _ c.node_name.ensures c.kind-kind.ensures) c.loop-number.invariant c.in_ok-put_arcs_of.ensures

@@ -1,0 +1,7 @@
+use Rattle.std.proofs.Common.{append_assoc, arith}
+use Rattle.std.proofs.lemmas.Grind.{common_steps}
+use Rattle.vg_draw.proofs.LineLemmas.{pairs-cons}
+use Rattle.vg_draw.proofs.words.put_pairs.Goals as goal
+
+pub returns : goal.returns
+returns c = grind (arith, common_steps, pairs-cons, append_assoc)

@@ -1,0 +1,174 @@
+-- The drawing of a graph in the DOT language, line by line.
+use Rattle.std.specs.Prelude.{ℕ, suc, ◌-◌, ◌/◌, ◌%◌, ◌==◌, Bool, true, false, List, [], ◌∷◌, ◌++◌, map, flat_map, slice_get, codes, decimal, bytes_eq, Option, Some, None, option_map, option_and_then, unwrap_or, if◌then◌else◌}
+use Rattle.std.specs.Char.{digit_char}
+use Rattle.std.specs.List.{fold, position_from, join_with_byte}
+use Rattle.vg_model.specs.declared.kinds.Adjacency.{Adjacency}
+use Rattle.vg_model.specs.declared.kinds.DropError.{DropError}
+use Rattle.vg_model.specs.declared.kinds.Interface.{Interface}
+use Rattle.vg_model.specs.declared.kinds.Kind.{Kind}
+use Rattle.vg_model.specs.declared.kinds.Kind.TheVariants as kinds
+use Rattle.vg_model.specs.declared.names.Mac.{Mac}
+use Rattle.vg_model.specs.Errors.{error_word}
+use Rattle.vg_model.specs.Graph.{Graph, Node, kind_entry, slots}
+use Rattle.vg_report.specs.declared.reports.Report.{Report}
+
+-- a byte as two hexadecimal digits
+abbrev pub pair_text : ℕ → List ℕ
+pair_text byte = digit_char (byte / 16) ∷ digit_char (byte % 16) ∷ []
+
+-- a link-layer address: six pairs parted by `:`
+abbrev pub mac_text : Mac → List ℕ
+mac_text mac = join_with_byte 58 (map pair_text mac.0)
+
+-- the words for the kinds of which scripts make no nodes
+abbrev pub built_in_word : Kind → List ℕ
+built_in_word kinds.PgInput = codes "pg-input"
+built_in_word kinds.HandoffDequeue = codes "handoff-dequeue"
+built_in_word kind = codes "error-drop"
+
+-- the word for a kind
+abbrev pub kind_word : Kind → List ℕ
+kind_word kind = unwrap_or (kind_entry kind).word (built_in_word kind)
+
+-- the count of a name
+abbrev pub counted_in : List (List ℕ × ℕ) → List ℕ → Option ℕ
+counted_in entries name =
+    option_and_then (λ place. option_map (λ (e : List ℕ × ℕ). e.1) (slice_get entries place)) (position_from (λ (e : List ℕ × ℕ). bytes_eq e.0 name) 0 entries)
+
+-- what is left of a node's visits, once those are taken off that it dropped with an error
+abbrev pub less : List ℕ → ℕ → List ℕ × DropError × ℕ → ℕ
+less name left entry = if bytes_eq entry.0 name then left - entry.2 else left
+
+-- how many packets a node passed on: its visits, less those that it dropped
+abbrev pub passed_on : List (List ℕ × DropError × ℕ) → List ℕ → (visits : ℕ) → ℕ
+passed_on errors name visits = fold (less name) visits errors
+
+-- a report tells that a node passed no packet on
+abbrev pub carries_nothing : Option Report → List ℕ → Bool
+carries_nothing None name = false
+carries_nothing (Some report) name = unwrap_or (option_map (λ visits. passed_on report.errors name visits == 0) (counted_in report.nodes name)) false
+
+-- a further line of a label: `\n`, a word, a space and a number
+abbrev pub count_text : List ℕ → ℕ → List ℕ
+count_text word count = 92 ∷ 110 ∷ (word ++ (32 ∷ decimal count))
+
+-- the same for a count that is there
+abbrev pub counted_text : List ℕ → Option ℕ → List ℕ
+counted_text word None = []
+counted_text word (Some count) = count_text word count
+
+-- an error of a node: `\n`, `drop`, the error and its count
+abbrev pub drop_text : List ℕ → List ℕ × DropError × ℕ → List ℕ
+drop_text name entry = if bytes_eq entry.0 name then 92 ∷ 110 ∷ (codes "drop " ++ (error_word entry.1 ++ (32 ∷ decimal entry.2))) else []
+
+-- what a report tells of a node: its visits, and its drops by error
+abbrev pub node_counts : Option Report → List ℕ → List ℕ
+node_counts None name = []
+node_counts (Some report) name = counted_text (codes "visits") (counted_in report.nodes name) ++ flat_map (drop_text name) report.errors
+
+-- what a report tells of an interface: how many packets were transmitted on it
+abbrev pub interface_counts : Option Report → List ℕ → List ℕ
+interface_counts None name = []
+interface_counts (Some report) name = counted_text (codes "tx") (counted_in report.interfaces name)
+
+-- the name of a thing in the text: a letter and its number
+abbrev pub id : ℕ → ℕ → List ℕ
+id letter number = letter ∷ decimal number
+
+-- a node, an interface, an adjacency: `n3`, `i0`, `a2`
+abbrev pub node_id : ℕ → List ℕ
+node_id = id 110
+
+abbrev pub interface_id : ℕ → List ℕ
+interface_id = id 105
+
+abbrev pub adjacency_id : ℕ → List ℕ
+adjacency_id = id 97
+
+-- a dashed line from a node
+abbrev pub dashed : ℕ → List ℕ → List ℕ
+dashed number target = 32 ∷ (node_id number ++ (codes " -> " ++ (target ++ codes " [style=dashed];")))
+
+-- where packets go from a node other than over its arcs: onto the wire, or by a queue to the node that takes from the queues
+abbrev pub leaving : ℕ → Kind → List ℕ
+leaving number kinds.InterfaceTx = dashed number (codes "wire")
+leaving number (kinds.WorkerHandoff hash) = dashed number (codes "n1")
+leaving number kind = []
+
+-- the line of a node of a name and a kind: `n3`, and as label its name, its kind, and what the report tells of it
+abbrev pub node_line : Option Report → ℕ → List ℕ → Kind → List ℕ
+node_line report number name kind =
+    codes "  " ++ (node_id number ++ (codes " [label=" ++ (34 ∷ (name ++ (92 ∷ 110 ∷ (kind_word kind ++ (node_counts report name
+    ++ (34 ∷ (codes "];" ++ (leaving number kind ++ 10 ∷ []))))))))))
+
+-- the color of an arc over which no packet went
+abbrev pub arc_color : Bool → List ℕ
+arc_color false = []
+arc_color true = codes ", color=grey, fontcolor=grey"
+
+-- the line of an arc from a node of a name and a kind to another: as label it has the name of the slot
+abbrev pub arc_line : Option Report → ℕ → List ℕ → Kind → ℕ → ℕ → List ℕ
+arc_line report number name kind slot target =
+    codes "  " ++ (node_id number ++ (codes " -> " ++ (node_id target ++ (codes " [label=" ++ (34 ∷ (unwrap_or (slice_get (slots kind) slot) []
+    ++ (34 ∷ (arc_color (carries_nothing report name) ++ (codes "];" ++ 10 ∷ [])))))))))
+
+-- a line for each element, with its number from this one on
+abbrev pub numbered : {X : Type 0} → (ℕ → X → List ℕ) → ℕ → List X → List (List ℕ)
+numbered f number [] = []
+numbered f number (x ∷ xs) = f number x ∷ numbered f (suc number) xs
+
+-- lines in a row
+abbrev pub all_of : List (List ℕ) → List ℕ
+all_of lines = flat_map (λ line. line) lines
+
+-- the lines of a node's arcs, by slot
+abbrev pub arc_lines : Option Report → ℕ → List ℕ → Kind → List ℕ → List ℕ
+arc_lines report number name kind arcs = all_of (numbered (arc_line report number name kind) 0 arcs)
+
+-- `up` or `down`, and `filter` where the interface filters
+abbrev pub state_text : Bool → Bool → List ℕ
+state_text up filter = (if up then codes " up" else codes " down") ++ (if filter then codes " filter" else [])
+
+-- the label of an interface: its name, its address, its mtu and its state, and what the report tells of it
+abbrev pub interface_label : Option Report → Interface → List ℕ
+interface_label report interface =
+    interface.name ++ (92 ∷ 110 ∷ (mac_text interface.mac ++ (92 ∷ 110 ∷ (codes "mtu " ++ (decimal interface.mtu
+    ++ (state_text interface.up interface.filter ++ interface_counts report interface.name))))))
+
+-- the line of an interface
+abbrev pub interface_line : Option Report → ℕ → Interface → List ℕ
+interface_line report number interface =
+    codes "  " ++ (interface_id number ++ (codes " [shape=house, label=" ++ (34 ∷ (interface_label report interface
+    ++ (34 ∷ (codes "]; wire -> " ++ (interface_id number ++ (codes " [style=dashed];" ++ 10 ∷ []))))))))
+
+-- the line of a neighbor: its name and its address, and the interface that it is behind
+abbrev pub adjacency_line : ℕ → Adjacency → List ℕ
+adjacency_line number adjacency =
+    codes "  " ++ (adjacency_id number ++ (codes " [shape=ellipse, label=" ++ (34 ∷ (adjacency.name ++ (92 ∷ 110 ∷ (mac_text adjacency.mac
+    ++ (34 ∷ (codes "]; " ++ (interface_id adjacency.interface ++ (codes " -> " ++ (adjacency_id number ++ (codes " [style=dashed];" ++ 10 ∷ []))))))))))))
+
+-- the first lines
+abbrev pub head_text : ℕ → List ℕ
+head_text generation =
+    codes "digraph " ++ (34 ∷ (codes "generation " ++ (decimal generation ++ (34 ∷ (codes " {" ++ 10 ∷ (codes "  rankdir=LR;" ++ 10 ∷ (codes "  node [shape=box];" ++ 10 ∷ (codes "  wire [shape=point];" ++ 10 ∷ []))))))))
+
+-- the lines of the nodes, by number
+abbrev pub node_lines : Option Report → List Node → List ℕ
+node_lines report nodes = all_of (numbered (λ number node. node_line report number node.name node.kind) 0 nodes)
+
+-- the lines of all arcs, by node and slot
+abbrev pub all_arc_lines : Option Report → List Node → List ℕ
+all_arc_lines report nodes = all_of (numbered (λ number node. arc_lines report number node.name node.kind node.arcs) 0 nodes)
+
+-- the lines of the interfaces, and of the neighbors, by number
+abbrev pub interface_lines : Option Report → List Interface → List ℕ
+interface_lines report interfaces = all_of (numbered (interface_line report) 0 interfaces)
+
+abbrev pub adjacency_lines : List Adjacency → List ℕ
+adjacency_lines adjacencies = all_of (numbered adjacency_line 0 adjacencies)
+
+-- the drawing of a generation's graph: a line for each node, by number, for each arc, by node and slot, and for each interface and neighbor
+abbrev pub drawing : Option Report → ℕ → Graph → List ℕ
+drawing report generation g =
+    head_text generation ++ (node_lines report g.nodes ++ (all_arc_lines report g.nodes ++ (interface_lines report g.interfaces
+    ++ (adjacency_lines g.adjacencies ++ 125 ∷ 10 ∷ []))))

@@ -1,0 +1,94 @@
+//! What is wrong with a capture.
+
+use std::alloc::{AllocError, Global};
+
+/// How many bytes a savefile's header has.
+pub const HEADER: usize = 24;
+
+/// The number of four bytes at a place, in one byte order or the other; 0 where the file is shorter.
+fn number_at(head: &[u8], place: usize, little: bool) -> u32 {
+    let Some(bytes) = head.get(place..place.saturating_add(4)) else {
+        return 0;
+    };
+    match bytes {
+        [a, b, c, d] if little => u32::from_le_bytes([*a, *b, *c, *d]),
+        [a, b, c, d] => u32::from_be_bytes([*a, *b, *c, *d]),
+        _ => 0,
+    }
+}
+
+/// Whether the numbers of a savefile stand with their lowest byte first.
+fn is_little(head: &[u8]) -> bool {
+    matches!(head.first(), Some(0xd4) | Some(0x4d))
+}
+
+/// What a file that is no savefile may be, and what makes one of it.
+fn other_format(head: &[u8]) -> &'static str {
+    match number_at(head, 0, false) {
+        0x0a0d_0d0a => "it is a pcapng file: `editcap -F pcap FILE NEW` makes a savefile of it",
+        0x2853_b52f | 0x28b5_2ffd => "it is compressed: `zstd -d FILE -o NEW` unpacks it",
+        0x0422_4d18 => "it is compressed: `lz4 -d FILE NEW` unpacks it",
+        number if number >> 16 == 0x1f8b => "it is compressed: `gunzip -c FILE > NEW` unpacks it",
+        _ =>
+            "it begins with none of the four bytes of a savefile (pcap); `capinfos FILE` tells what it is, and `editcap -F pcap FILE NEW` converts it",
+    }
+}
+
+/// The sentence for a capture that is refused, by the cause and the place that were printed, and the first bytes of the file.
+pub fn capture_fault(
+    alloc: Global,
+    cause: &str,
+    place: &str,
+    head: &[u8],
+) -> Result<String, AllocError> {
+    let little = is_little(head);
+    if cause == "too-large" {
+        return String::from_str(
+            alloc,
+            "it has more than 16777216 bytes: `editcap -F pcap -c 10000 FILE NEW` splits it\n",
+        );
+    }
+    if cause == "not-pcap" {
+        let other = other_format(head);
+        return format!(in alloc; "{other}\n");
+    }
+    if cause == "version" {
+        let version = number_at(head, 4, false);
+        let first = version >> 16;
+        let second = version & 0xffff;
+        let (major, minor) = if little {
+            (swapped(first), swapped(second))
+        } else {
+            (first, second)
+        };
+        return format!(in alloc;
+            "it is of version {major}.{minor} of the format, and 2.4 is wanted: `editcap -F pcap FILE NEW` writes it anew\n"
+        );
+    }
+    if cause == "link-type" {
+        let link = number_at(head, 20, little);
+        return format!(in alloc;
+            "its link type is {link}, and 1, Ethernet, is wanted: capture on an Ethernet interface, or name the frames Ethernet by `editcap -T ether FILE NEW` where they are\n"
+        );
+    }
+    if cause == "truncated" {
+        return format!(in alloc;
+            "it ends within what begins at byte {place}: `editcap -F pcap FILE NEW` keeps the whole packets\n"
+        );
+    }
+    if cause == "record-too-long" {
+        return format!(in alloc;
+            "the record at byte {place} says that more than 262144 bytes were captured: the file is damaged there\n"
+        );
+    }
+    format!(in alloc;
+        "its record at byte {place} is the 65537th: `editcap -F pcap -r FILE NEW 1-65536` keeps those before it\n"
+    )
+}
+
+/// The two bytes of a number in the other order.
+fn swapped(number: u32) -> u32 {
+    let low = number & 0xff;
+    let high = number >> 8 & 0xff;
+    low << 8 | high
+}

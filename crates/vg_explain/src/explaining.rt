@@ -1,0 +1,175 @@
+//! The explanation of a refusal, written to the standard error.
+
+use crate::captures::{HEADER, capture_fault};
+use crate::commands::{USAGE, asks_for_help, file_named, words_fault};
+use crate::scripts::script_fault;
+use crate::text::{report_fault, turns_fault, verdict};
+use std::fs::OpenOptions;
+use std::io::{ErrorKind, Read};
+use std::rt::Files;
+use std::{fs, io, str};
+
+/// A call of a program, as far as an explanation speaks of it.
+#[derive(Clone, Copy)]
+pub struct Called<'a> {
+    /// The program's name.
+    pub program: &'a str,
+    /// How it is called.
+    pub usage: &'a str,
+    /// What is wrong with its words where they ask for nothing; nothing where they ask for help.
+    pub fault: Option<&'a str>,
+    /// The names of its capture and its script, where the words name them.
+    pub capture: Option<&'a str>,
+    pub script: Option<&'a str>,
+}
+
+/// The most bytes of a script that are read.
+const MOST_OF_SCRIPT: u64 = 262_145;
+
+/// The first bytes of a file.
+fn first_bytes<R: Files + AllocGlobal>(rt: &R, name: &str, most: u64) -> io::Result<Vec<u8>> {
+    let file = fs::open(rt, name)?;
+    let mut bytes = Vec::new(rt.alloc());
+    file.take(most).read_to_end(&mut bytes)?;
+    Ok(bytes)
+}
+
+/// The first bytes of a file that may be named; none where it can't be read.
+fn bytes_of<R: Files + AllocGlobal>(rt: &R, name: Option<&str>, most: u64) -> Vec<u8> {
+    match name {
+        Some(name) => match first_bytes(rt, name, most) {
+            Ok(bytes) => bytes,
+            Err(_) => Vec::new(rt.alloc()),
+        },
+        None => Vec::new(rt.alloc()),
+    }
+}
+
+/// Tells why a file could not be loaded: what the system says of another try.
+fn explain_load<R: Files + Eprint + AllocGlobal>(
+    rt: &R,
+    program: &str,
+    name: &str,
+) -> io::Result<()> {
+    match first_bytes(rt, name, 1) {
+        Ok(_) => eprintln!(rt; "{program}: `{name}` could not be read, and can be read now"),
+        Err(error) => eprintln!(rt; "{program}: `{name}` could not be read: {error}"),
+    }
+}
+
+/// Tells why a file could not be saved, as far as that is seen without writing.
+fn explain_save<R: Files + Eprint + AllocGlobal>(
+    rt: &R,
+    program: &str,
+    name: &str,
+) -> io::Result<()> {
+    match OpenOptions::new().append(true).open(rt, name) {
+        Err(error) if error.kind() != ErrorKind::NotFound => {
+            eprintln!(rt; "{program}: `{name}` could not be written: {error}")
+        }
+        _ => eprintln!(rt;
+            "{program}: `{name}` could not be written: its folder has to be there, writable, and with room for the file; what was there is as it was"
+        ),
+    }
+}
+
+/// Two words parted by a space; the second is empty where there is one.
+fn parted(text: &str) -> (&str, &str) {
+    match text.split_once(' ') {
+        Some(parts) => parts,
+        None => (text, ""),
+    }
+}
+
+/// Writes to the standard error what was found and what to do, by the line that was printed where a call was refused.
+pub fn explain<R: Files + Eprint + AllocGlobal>(
+    rt: &R,
+    called: &Called<'_>,
+    printed: &[u8],
+) -> io::Result<()> {
+    let program = called.program;
+    let Ok(text) = str::from_utf8(printed) else {
+        return Ok(());
+    };
+    let (first, rest) = parted(text.trim_end());
+    let alloc = rt.alloc();
+    if first == "usage" {
+        return match called.fault {
+            None => eprint!(rt; "{}", called.usage),
+            Some(fault) => eprintln!(rt;
+                "{program}: {}\n`{program} --help` tells all words",
+                fault.trim_end()
+            ),
+        };
+    }
+    if first == "load" {
+        return explain_load(rt, program, rest);
+    }
+    if first == "save" {
+        return explain_save(rt, program, rest);
+    }
+    if first == "capture" {
+        let (cause, place) = parted(rest);
+        let name = called.capture.unwrap_or("");
+        let head = bytes_of(rt, called.capture, HEADER as u64);
+        let sentence = capture_fault(alloc, cause, place, head.as_slice())?;
+        return eprint!(rt; "{program}: the capture `{name}` is refused: {sentence}");
+    }
+    if first == "script" {
+        let (line, cause) = parted(rest);
+        let name = called.script.unwrap_or("");
+        let script = bytes_of(rt, called.script, MOST_OF_SCRIPT);
+        let number = line.parse::<u32>().unwrap_or(0);
+        let sentence = script_fault(alloc, number, cause, script.as_slice())?;
+        return eprint!(rt; "{program}: line {line} of the script `{name}` is refused: {sentence}");
+    }
+    if first == "turns" {
+        return eprintln!(rt;
+            "{program}: byte {rest} of the turns file, counted from 0, is refused: {}",
+            turns_fault()
+        );
+    }
+    if first == "report" {
+        let (line, cause) = parted(rest);
+        return eprintln!(rt;
+            "{program}: line {line} of the report is refused: {}",
+            report_fault(cause)
+        );
+    }
+    if first == "no" {
+        return eprintln!(rt; "{program}: {}", verdict(rest));
+    }
+    Ok(())
+}
+
+/// Writes to the standard error why a call of `vgd` ended with a status other than 0.
+pub fn explain_vgd<R: Files + Eprint + AllocGlobal>(
+    rt: &R,
+    words: &[&str],
+    status: u8,
+    printed: &[u8],
+) -> io::Result<()> {
+    if status == 1 {
+        return eprintln!(rt; "vgd: memory ran out; nothing was saved");
+    }
+    if status == 7 {
+        return eprintln!(rt; "vgd: the standard output could not be written to its end");
+    }
+    let fault = words_fault(rt.alloc(), words)?;
+    let fault = if asks_for_help(words) {
+        None
+    } else {
+        Some(fault.as_str())
+    };
+    explain(
+        rt,
+        &Called {
+            program: "vgd",
+            usage: USAGE,
+            fault,
+            capture: file_named(words, 0),
+            script: file_named(words, 1),
+        },
+        printed,
+    )
+}

@@ -1,0 +1,168 @@
+//! The statements of a script: what is wanted at each word.
+
+use vg_model::Name;
+
+/// What is wanted at a place of a statement.
+#[derive(Clone, Copy, Debug, PartialEq, Eq)]
+pub enum Wanted {
+    /// This very word.
+    Word(&'static str),
+    /// One of the words behind an mtu, or behind a prefix.
+    Choice,
+    Name,
+    Mac,
+    Prefix,
+    Kind,
+    Number { least: u64, most: u64 },
+    /// Nothing: the statement has ended.
+    Nothing,
+}
+
+const A_TIME: u64 = 1_000_000_000_000;
+
+fn of_interface(place: usize) -> Wanted {
+    match place {
+        1 => Wanted::Name,
+        2 => Wanted::Word("mac"),
+        3 => Wanted::Mac,
+        4 => Wanted::Word("mtu"),
+        5 => Wanted::Number {
+            least: 68,
+            most: 65_535,
+        },
+        6 => Wanted::Choice,
+        7 => Wanted::Word("filter"),
+        _ => Wanted::Nothing,
+    }
+}
+
+fn of_adjacency(place: usize) -> Wanted {
+    match place {
+        1 | 3 => Wanted::Name,
+        2 => Wanted::Word("interface"),
+        4 => Wanted::Word("dst"),
+        5 => Wanted::Mac,
+        _ => Wanted::Nothing,
+    }
+}
+
+fn of_process(place: usize) -> Wanted {
+    match place {
+        1 => Wanted::Name,
+        2 => Wanted::Word("every"),
+        3 => Wanted::Number {
+            least: 1,
+            most: A_TIME,
+        },
+        4 => Wanted::Word("count"),
+        5 => Wanted::Number {
+            least: 1,
+            most: 999,
+        },
+        _ => Wanted::Nothing,
+    }
+}
+
+/// The words that a line begins with.
+const STATEMENTS: [&str; 10] = [
+    "interface",
+    "node",
+    "arc",
+    "adjacency",
+    "route",
+    "unroute",
+    "at",
+    "process",
+    "then",
+    "end",
+];
+
+/// Whether a statement begins with this word.
+pub fn is_statement(word: &[u8]) -> bool {
+    STATEMENTS
+        .iter()
+        .any(|statement| statement.as_bytes() == word)
+}
+
+/// What is wanted at a place of the statement that begins with this word; its own place is 0.
+pub fn wanted_at(statement: &[u8], place: usize) -> Wanted {
+    if statement == b"interface".as_slice() {
+        of_interface(place)
+    } else if statement == b"adjacency".as_slice() {
+        of_adjacency(place)
+    } else if statement == b"process".as_slice() {
+        of_process(place)
+    } else if statement == b"node".as_slice() {
+        match place {
+            1 => Wanted::Name,
+            2 => Wanted::Word("kind"),
+            3 => Wanted::Kind,
+            _ => Wanted::Nothing,
+        }
+    } else if statement == b"arc".as_slice() {
+        match place {
+            1 | 2 | 3 => Wanted::Name,
+            _ => Wanted::Nothing,
+        }
+    } else if statement == b"route".as_slice() {
+        match place {
+            1 => Wanted::Prefix,
+            2 => Wanted::Choice,
+            3 => Wanted::Name,
+            _ => Wanted::Nothing,
+        }
+    } else if statement == b"unroute".as_slice() {
+        match place {
+            1 => Wanted::Prefix,
+            _ => Wanted::Nothing,
+        }
+    } else if statement == b"at".as_slice() {
+        match place {
+            1 => Wanted::Number {
+                least: 0,
+                most: A_TIME,
+            },
+            _ => Wanted::Nothing,
+        }
+    } else {
+        Wanted::Nothing
+    }
+}
+
+/// Whether a word is a number in its range: decimal digits, the first of several not 0.
+fn is_number(word: &[u8], least: u64, most: u64) -> bool {
+    if word.is_empty() || word.len() > 13 || (word.len() > 1 && word[0] == b'0') {
+        return false;
+    }
+    let mut number = 0u64;
+    for digit in word {
+        if !digit.is_ascii_digit() {
+            return false;
+        }
+        number = number
+            .saturating_mul(10)
+            .saturating_add(u64::from(*digit - b'0'));
+    }
+    least <= number && number <= most
+}
+
+/// Whether a word is one of the choices at this place of a statement.
+fn is_choice(statement: &[u8], word: &[u8]) -> bool {
+    if statement == b"route".as_slice() {
+        word == b"via".as_slice() || word == b"local".as_slice() || word == b"drop".as_slice()
+    } else {
+        word == b"up".as_slice() || word == b"down".as_slice()
+    }
+}
+
+/// Whether a word may stand where a name, a number or a fixed word is wanted; of the other kinds of words a statement has one.
+pub fn is_as_wanted(statement: &[u8], wanted: Wanted, word: &[u8]) -> bool {
+    match wanted {
+        Wanted::Word(fixed) => word == fixed.as_bytes(),
+        Wanted::Choice => is_choice(statement, word),
+        Wanted::Name => Name::of(word).is_some(),
+        Wanted::Number { least, most } => is_number(word, least, most),
+        Wanted::Mac | Wanted::Prefix | Wanted::Kind => true,
+        Wanted::Nothing => false,
+    }
+}

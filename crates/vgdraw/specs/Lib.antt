@@ -1,0 +1,5 @@
+pub mod Asked
+pub mod Drawn
+pub mod Reading
+pub mod Run
+pub mod Dues

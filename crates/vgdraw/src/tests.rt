@@ -1,0 +1,106 @@
+//! Calls over folders in memory.
+
+use crate::top::draw_run;
+use std::test::Fail;
+use vg_outside::{SureFolder, SureSink};
+
+/// The status and the printed text of a call over a script and a report.
+fn drawn<R: AllocGlobal>(
+    rt: &R,
+    words: &[&str],
+    script: &[u8],
+    report: &[u8],
+) -> Result<(u8, Vec<u8>), Fail> {
+    let alloc = rt.alloc();
+    let mut folder = SureFolder::new(alloc);
+    folder.add("s", script)?;
+    folder.add("r", report)?;
+    let mut out = SureSink::new(alloc);
+    let status = draw_run(alloc, words, &mut folder, &mut out);
+    Ok((status, out.written().to_vec(alloc)?))
+}
+
+/// Whether a text stands in another.
+fn has(text: &[u8], part: &str) -> bool {
+    if part.is_empty() {
+        return true;
+    }
+    text.windows(part.len())
+        .any(|window| window == part.as_bytes())
+}
+
+const REPORT: &[u8] = b"vgd report 1
+workers 1
+buffers 4096
+generations 2
+packets 0
+interface 0 pg0 tx 1
+node 0 pg-input 3
+node 1 handoff-dequeue 0
+node 2 ethernet-input 3
+node 3 ip4-input 2
+node 4 ip4-lookup 1
+node 5 ip4-rewrite 0
+node 6 interface-output 0
+node 7 interface-tx 1
+node 8 error-drop 2
+error ethernet-input short 1
+error ip4-input bad-length 1
+end
+";
+
+#[test]
+fn all_generations_are_drawn(rt: HostRuntime) -> Result<(), Fail> {
+    let script =
+        b"adjacency east interface pg0 dst 02:00:00:00:00:09\nat 5\narc ethernet-input ip4 interface-tx\nend\n";
+    let (status, text) = drawn(&rt, &["--all", "s", "r"], script, REPORT)?;
+    assert_eq!(rt; status, 0);
+    assert!(rt; has(&text, "digraph \"generation 0\" {\n"));
+    assert!(rt; has(&text, "digraph \"generation 1\" {\n"));
+    assert!(rt; has(&text, "  n2 -> n3 [label=\"ip4\"];\n"));
+    assert!(rt; has(&text, "  n2 -> n7 [label=\"ip4\"];\n"));
+    assert!(rt;
+        has(
+            &text,
+            "  n2 [label=\"ethernet-input\\nethernet-input\\nvisits 3\\ndrop short 1\"];\n"
+        )
+    );
+    assert!(rt; has(&text, "  n3 -> n4 [label=\"lookup\"];\n"));
+    assert!(rt;
+        has(
+            &text,
+            "  n5 -> n6 [label=\"output\", color=grey, fontcolor=grey];\n"
+        )
+    );
+    assert!(rt;
+        has(
+            &text,
+            "  i0 [shape=house, label=\"pg0\\n02:fe:00:00:00:00\\nmtu 9000 up\\ntx 1\"]; wire -> i0 [style=dashed];\n"
+        )
+    );
+    assert!(rt;
+        has(
+            &text,
+            "  a0 [shape=ellipse, label=\"east\\n02:00:00:00:00:09\"]; i0 -> a0 [style=dashed];\n"
+        )
+    );
+    let (status, one) = drawn(&rt, &["--generation", "1", "s"], script, REPORT)?;
+    assert_eq!(rt; status, 0);
+    assert!(rt; !has(&one, "n2 -> n3") && has(&one, "n2 -> n7"));
+    Ok(())
+}
+
+#[test]
+fn refusals_have_their_status_and_their_line(rt: HostRuntime) -> Result<(), Fail> {
+    let (status, text) = drawn(&rt, &[], b"", b"")?;
+    assert!(rt; status == 2 && text.as_slice() == b"usage\n".as_slice());
+    let (status, text) = drawn(&rt, &["--generation", "1", "s"], b"", b"")?;
+    assert!(rt; status == 2 && text.as_slice() == b"usage\n".as_slice());
+    let (status, text) = drawn(&rt, &["x"], b"", b"")?;
+    assert!(rt; status == 3 && text.as_slice() == b"load x\n".as_slice());
+    let (status, text) = drawn(&rt, &["s"], b"\narc a b c\n", b"")?;
+    assert!(rt; status == 5 && text.as_slice() == b"script 2 unknown-node\n".as_slice());
+    let (status, text) = drawn(&rt, &["s", "r"], b"", b"vgd report 1\nworkers 9\n")?;
+    assert!(rt; status == 9 && text.as_slice() == b"report 2 number\n".as_slice());
+    Ok(())
+}
