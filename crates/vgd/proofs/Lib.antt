@@ -1,6 +1,10 @@
+pub mod CheckLemmas
 pub mod CountLemmas
+pub mod CountedLoadLemmas
 pub mod ExpectedLemmas
+pub mod FileLemmas
 pub mod LoadLemmas
+pub mod LosslessLemmas
 pub mod OutputLemmas
 pub mod PrintLemmas
 pub mod ReportLemmas

@@ -12,7 +12,7 @@ use Rattle.vgd.specs.Stops.{OnRefusal, IsLoadOf}
 use Rattle.vgd.proofs.PrintLemmas.{rose_later}
 
 -- a file of which bytes were loaded is there
-is_there : (files : Option Files) (name bytes : List ℕ) (n : ℕ) → FirstBytes files name n bytes → IsThere files name
+pub is_there : (files : Option Files) (name bytes : List ℕ) (n : ℕ) → FirstBytes files name n bytes → IsThere files name
 is_there None name bytes n h = tt
 is_there (Some files) name bytes n h = found (file files name) h
   where
@@ -32,6 +32,7 @@ load_of P Q (refusals.Capture fault) f h = h
 load_of P Q (refusals.Script error) f h = h
 load_of P Q (refusals.Turns place) f h = h
 load_of P Q (refusals.Save name) f h = h
+load_of P Q (refusals.Verdict verdict) f h = h
 
 pub on_load : (P Q : List ℕ → Type 0) (stop : Stop) → ((name : List ℕ) → P name → Q name) → OnRefusal (IsLoadOf P) stop → OnRefusal (IsLoadOf Q) stop
 on_load P Q stops.Memory f h = h
@@ -50,4 +51,13 @@ pub turns_failed : (files now : Option Files) (run : Run) (turns : List ℕ) (fi
 turns_failed files now run turns first before after capture script m n named one two same later failed h = (
   turns_next files run turns failed capture script m n named h.0 one two,
   subst (λ name. FailedLoad files name (first name) (after name)) (sym h.0) (failed_before files now turns (first turns) (before turns) (after turns) same (later turns) h.1),
+)
+
+-- the load that failed is the next one, by what was there before the loads before it
+pub failed_next : (files now : Option Files) (name : List ℕ) (first before after : List ℕ → ℕ) (IsNext : List ℕ → Type 0) → IsNext name → now ≡ files
+    → ((other : List ℕ) → first other ≤ before other) → (failed : List ℕ) → (failed ≡ name) × FailedLoad now name (before name) (after name)
+    → IsNext failed × FailedLoad files failed (first failed) (after failed)
+failed_next files now name first before after IsNext next same later failed h = (
+  subst IsNext (sym h.0) next,
+  subst (λ n. FailedLoad files n (first n) (after n)) (sym h.0) (failed_before files now name (first name) (before name) (after name) same (later name) h.1),
 )

@@ -39,6 +39,7 @@ use Rattle.vg_check.proofs.OutputLemmas.{named_are}
 use Rattle.vgd.specs.declared.run.Results.{Results}
 use Rattle.vgd.specs.Dues.{AreResultsOf, setting_in}
 use Rattle.vgd.specs.Reports.{reported, line_of_fate}
+use Rattle.vgd.proofs.LosslessLemmas.{lossless_by}
 use Rattle.vgd.proofs.ReportLemmas.{counted_are, errors_are, lines_are, traces_are}
 
 -- the last of some graphs
@@ -110,7 +111,7 @@ module _ (plan : Planned) (options : Options) (capture : Capture) (outcome : Out
 
   -- the report, the savefile and the end are the run's
   pub results_are : (report : Report) (results : Results) → IsPlan plan → report ≡ reported options (length plan.graphs) outcome → results.report ≡ text report
-      → results.tx ≡ savefile capture outcome.sent → results.end.rests ≡ outcome.rests → results.end.seat ≡ outcome.seat → AreResultsOf plan options capture results
+      → results.tx ≡ savefile capture outcome.sent → results.end.rests ≡ outcome.rests → results.end.seat ≡ outcome.seat → AreResultsOf plan options lossless capture results
   results_are report results planned made is_text saved rests seat =
       let first : ℕ → ℕ = first_generation plan.script capture in
       let is_report : report ≡ report_of (setting_in options) plan.graphs is.js = made ∙ reported_is in
@@ -131,6 +132,8 @@ module _ (plan : Planned) (options : Options) (capture : Capture) (outcome : Out
           stamp = subst (λ seat. length plan.graphs ≤ (main_view seat.seat).stamp) (sym seat) is.stamp;
         };
         alike = alike_by plan.graphs first (setting_in options) capture report results.tx planned.generations output;
+        lossless = λ yes_is. lossless_by plan.graphs first (setting_in options) capture report results.tx outcome.last outcome.fates planned.generations output
+            (ap (λ (r : Report). r.packets) made) (is.none_congested yes_is);
       }
 
   -- each packet has a journey of its own

@@ -21,12 +21,14 @@ use Rattle.vgd.specs.declared.refusals.Refusal.{Refusal}
 use Rattle.vgd.specs.declared.refusals.Refusal.TheVariants as refusals
 use Rattle.vgd.specs.declared.refusals.Stop.{Stop}
 use Rattle.vgd.specs.declared.refusals.Stop.TheVariants as stops
-use Rattle.vgd.specs.declared.run.Due.{Due}
+use Rattle.vgd.specs.declared.dues.Due.{Due}
 use Rattle.vgd.specs.declared.run.Results.{Results}
-use Rattle.vgd.specs.Command.{run_asked, options_of}
+use Rattle.vg_load.specs.declared.summaries.Load.{Load}
+use Rattle.vg_load.specs.Summary.{summary}
+use Rattle.vgd.specs.Command.{load_asked, run_asked, options_of}
 use Rattle.vgd.specs.Plan.{graphs_by, graphs_of}
 use Rattle.vgd.specs.Files.{FileBytes, OfTurns, AreFirstBytes, IsLoadedNext}
-use Rattle.vgd.specs.Run.{Call, AreLoaded, AreAccepted, IsRefused, status_of, line_of}
+use Rattle.vgd.specs.Run.{Call, AreLoaded, AreAccepted, IsRefused, IsRunRefused, status_of, line_of}
 use Rattle.vgd.specs.Stops.{OnRefusal, IsLoadOf, IsRefusedFor, AreRead}
 use Rattle.vgd.specs.Dues.{IsDueFor, IsDueOf, AreResultsOf}
 use Rattle.vgd.proofs.TurnLemmas.{same_turns}
@@ -43,7 +45,7 @@ whole_file None name n bytes h = (bytes, tt, inl refl)
 whole_file (Some files) name n bytes h = let all = some_and (λ all. bytes ≡ take n all) (file files name) h in (all.0, all.1, inr all.2)
 
 -- the first bytes of a capture decide
-same_capture : (all bytes : List ℕ) → (all ≡ bytes) ⊎ (bytes ≡ take (largest_file + 1) all) → capture_of bytes ≡ capture_of all
+pub same_capture : (all bytes : List ℕ) → (all ≡ bytes) ⊎ (bytes ≡ take (largest_file + 1) all) → capture_of bytes ≡ capture_of all
 same_capture all bytes (inl e) = ap capture_of (sym e)
 same_capture all bytes (inr e) = ap capture_of e ∙ capture_of-take all (largest_file + 1) (omega arith)
 
@@ -52,11 +54,11 @@ long_script : (text : List ℕ) → largest_script < length text → script_of t
 long_script text h = ap (λ b. if b then refused 0 causes.TooLarge else script_of_lines (lines text)) (lt-ltb largest_script (length text) h)
 
 -- scripts that are read alike make the same graphs
-graphs_by_script : (one other : List ℕ) → script_of one ≡ script_of other → graphs_of one ≡ graphs_of other
+pub graphs_by_script : (one other : List ℕ) → script_of one ≡ script_of other → graphs_of one ≡ graphs_of other
 graphs_by_script one other e = ap (λ (r : Result Script ScriptError). elim r as (λ _. Result (List Graph) ScriptError) [ Ok script ↦ graphs_by script | Err error ↦ Err error ]) e
 
 -- the first bytes of a script decide
-same_script : (all bytes : List ℕ) → (all ≡ bytes) ⊎ (bytes ≡ take (largest_script + 1) all) → script_of bytes ≡ script_of all
+pub same_script : (all bytes : List ℕ) → (all ≡ bytes) ⊎ (bytes ≡ take (largest_script + 1) all) → script_of bytes ≡ script_of all
 same_script all bytes (inl e) = ap script_of (sym e)
 same_script all bytes (inr e) = ap script_of e ∙ elim (cases_lt (length all) (largest_script + 1)) [
   | inl short ↦ ap script_of (take_all (largest_script + 1) all (omega (arith, short)))
@@ -95,17 +97,18 @@ loaded_whole call run bytes is first =
 -- a file couldn't be loaded
 pub refused_load : (call : Call) (run : Run) (refusal : Refusal) → run_asked call.words ≡ Some run
     → IsLoadOf (λ failed. IsLoadedNext call.files run failed × FailedLoad call.files failed (call.faults failed) (call.faults_after failed)) refusal
-    → call.files_after ≡ call.files → IsRefused call refusal
+    → call.files_after ≡ call.files → IsRunRefused call refusal
 refused_load call run refusals.Usage is h same = absurd h
 refused_load call run (refusals.Load name) is h same = (record { run = run; is_command = is; named = h.0; fault = h.1 }, same)
 refused_load call run (refusals.Capture fault) is h same = absurd h
 refused_load call run (refusals.Script error) is h same = absurd h
 refused_load call run (refusals.Turns place) is h same = absurd h
 refused_load call run (refusals.Save name) is h same = absurd h
+refused_load call run (refusals.Verdict verdict) is h same = absurd h
 
 -- the capture, the script or the turns file is refused
 pub refused_read : (call : Call) (run : Run) (bytes : FileBytes) (refusal : Refusal) → run_asked call.words ≡ Some run
-    → AreFirstBytes call.files run bytes → IsRefusedFor run.workers bytes refusal → call.files_after ≡ call.files → IsRefused call refusal
+    → AreFirstBytes call.files run bytes → IsRefusedFor run.workers bytes refusal → call.files_after ≡ call.files → IsRunRefused call refusal
 refused_read call run bytes refusals.Usage is first h same = absurd h
 refused_read call run bytes (refusals.Load name) is first h same = absurd h
 refused_read call run bytes (refusals.Capture fault) is first h same =
@@ -138,6 +141,7 @@ refused_read call run bytes (refusals.Turns place) is first h same =
       same,
     )
 refused_read call run bytes (refusals.Save name) is first h same = absurd h
+refused_read call run bytes (refusals.Verdict verdict) is first h same = absurd h
 
 -- all are accepted
 pub accepted_read : (call : Call) (run : Run) (bytes : FileBytes) (input : Input) → run_asked call.words ≡ Some run
@@ -167,13 +171,20 @@ stopped_due call stops.Memory P (Ok due) d h f = absurd d
 stopped_due call (stops.Refused refusal) P (Ok due) d h f = inr (d.2, (refusal, d.0, d.1, f refusal h))
 stopped_due call stop P (Err e) d h f = tt
 
+-- a load is done
+pub load_due : (call : Call) (load : Load) (r : Result Due Memory) → load_asked call.words ≡ Some load → IfOk r (λ due. due.status ≡ 0)
+    → IfOk r (λ due. due.text ≡ summary load.seed load.packets load.workers) → IfOk r (λ due. due.ran ≡ None) → call.files_after ≡ call.files
+    → IfOk r (IsDueOf call)
+load_due call load (Ok due) is s t n same = inl (s, inr (n, inl (record { load = load; is_command = is; printed = t; same = same })))
+load_due call load (Err e) is s t n same = tt
+
 -- the savefile was saved
 pub done_due : (call : Call) (run : Run) (input : Input) (results : Results) → AreAccepted call run input.capture input.plan.script input.plan.graphs
-    → AreResultsOf input.plan (options_of run) input.capture results → HoldsBytes call.files_after run.tx results.tx → SameElsewhere call.files call.files_after run.tx
+    → AreResultsOf input.plan (options_of run) run.hold input.capture results → HoldsBytes call.files_after run.tx results.tx → SameElsewhere call.files call.files_after run.tx
     → IsDueOf call (record { status = 0; text = results.report; ran = Some results.end })
 done_due call run input results accepted are saved others = inl (
   refl,
-  (
+  inl (
     record {
       run = run;
       capture = input.capture;
@@ -187,6 +198,7 @@ done_due call run input results accepted are saved others = inl (
       saved = saved;
       others = others;
       alike = are.alike;
+      lossless = are.lossless;
     },
     are.end,
   ),
@@ -195,7 +207,7 @@ done_due call run input results accepted are saved others = inl (
 -- the savefile couldn't be saved
 pub save_fault : (call : Call) (run : Run) (name : Bor (List ℕ)) (input : Input) → name.now ≡ run.tx
     → AreAccepted call run input.capture input.plan.script input.plan.graphs
-    → Rose (call.faults name.now) (call.faults_after name.now) → SameElsewhere call.files call.files_after name.now → IsRefused call (refusals.Save name)
+    → Rose (call.faults name.now) (call.faults_after name.now) → SameElsewhere call.files call.files_after name.now → IsRunRefused call (refusals.Save name)
 save_fault call run name input named accepted fault others = record {
   run = run;
   capture = input.capture;

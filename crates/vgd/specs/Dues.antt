@@ -1,5 +1,5 @@
 -- What is due where a run stops, and where it ends.
-use Rattle.std.specs.Prelude.{◌≡◌, ◌⊎◌, length, None, IsSomeAnd}
+use Rattle.std.specs.Prelude.{◌≡◌, ◌⊎◌, ℕ, Bool, true, List, length, Option, None, IsSomeAnd}
 use Rattle.vg_model.specs.Visit.{ip4_visit}
 use Rattle.vg_capture.specs.declared.captures.Capture.{Capture}
 use Rattle.vg_report.specs.declared.reports.Report.{Report}
@@ -11,10 +11,12 @@ use Rattle.vg_check.specs.OneWorker.{alone, HasOwnEnds}
 use Rattle.vgd.specs.declared.refusals.Refusal.{Refusal}
 use Rattle.vgd.specs.declared.refusals.Stop.{Stop}
 use Rattle.vgd.specs.declared.refusals.Stop.TheVariants as stops
-use Rattle.vgd.specs.declared.run.Due.{Due}
+use Rattle.vgd.specs.declared.done.RunEnd.{RunEnd}
+use Rattle.vgd.specs.declared.dues.Due.{Due}
 use Rattle.vgd.specs.declared.run.Results.{Results}
 use Rattle.vgd.specs.Ended.{HasEnded}
-use Rattle.vgd.specs.Run.{Call, IsDone, IsEndOf, IsRefused, status_of, line_of}
+use Rattle.vgd.specs.Lossless.{IsLossless}
+use Rattle.vgd.specs.Run.{Call, IsDone, IsEndOf, IsLoadDone, IsCheckDone, IsRefused, status_of, line_of}
 
 -- the status and the line of the refusal, and no end of a run; nothing is due at want of memory
 abbrev pub IsDueFor : Stop → Due → Type 0
@@ -25,18 +27,24 @@ IsDueFor (stops.Refused refusal) due = (due.status ≡ status_of refusal) × (du
 abbrev pub setting_in : Options → Setting
 setting_in options = record { workers = options.workers; buffers = options.buffers; queue = options.queue; trace = options.trace }
 
--- the savefile and the text of the report of what a capture's packets become by this plan and these options, and the end of the run that
--- made them
-pub record AreResultsOf (plan : Planned) (options : Options) (capture : Capture) (results : Results) : Type 0 where
+-- the savefile and the text of the report of what a capture's packets become by this plan and these options, where frames that a queue
+-- doesn't take are held back or not, and the end of the run that made them
+pub record AreResultsOf (plan : Planned) (options : Options) (hold : Bool) (capture : Capture) (results : Results) : Type 0 where
   pub report : Report
   pub is_text : results.report ≡ text report
   pub output : IsOutput ip4_visit plan.graphs (first_generation plan.script capture) (setting_in options) capture report results.tx
   pub end : HasEnded options.workers plan.graphs output.js results.end
   pub alike : length plan.graphs ≡ 1 → HasOwnEnds report
       → (other : Report) × IsOutput ip4_visit plan.graphs (first_generation plan.script capture) (alone (setting_in options)) capture other results.tx
+  pub lossless : hold ≡ true → IsLossless ip4_visit plan.graphs (first_generation plan.script capture) (setting_in options) capture report results.tx
 
--- what is due of a call, whole: at status 0 the run is done and this is its end, and else the run is refused and has no end
+-- a run is done, and this is its end; or a load or a check is, which have none
+abbrev pub AreDone : Call → List ℕ → Option RunEnd → Type 0
+AreDone call line ran = ((done : IsDone call line) × IsSomeAnd ran (IsEndOf done)) ⊎ ((ran ≡ None) × (IsLoadDone call line ⊎ IsCheckDone call line))
+
+-- what is due of a call, whole: at status 0 a run is done and this is its end, or a load or a check is done; and else the call is refused. Where
+-- no run is done, there is no end of one
 abbrev pub IsDueOf : Call → Due → Type 0
 IsDueOf call due =
-    ((due.status ≡ 0) × ((done : IsDone call due.text) × IsSomeAnd due.ran (IsEndOf done)))
+    ((due.status ≡ 0) × AreDone call due.text due.ran)
     ⊎ ((due.ran ≡ None) × ((refusal : Refusal) × (due.status ≡ status_of refusal) × (due.text ≡ line_of refusal) × IsRefused call refusal))

@@ -1,9 +1,11 @@
 pub mod Command
 pub mod Files
 pub mod Plan
+pub mod Checks
 pub mod Ended
 pub mod Run
 pub mod Stops
+pub mod Lossless
 pub mod Dues
 pub mod Expected
 pub mod Reports

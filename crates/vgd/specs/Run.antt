@@ -1,5 +1,5 @@
--- What a run of the program answers and what it leaves behind.
-use Rattle.std.specs.Prelude.{◌≡◌, ◌≢◌, ◌⊎◌, ℕ, ◌<◌, ◌++◌, List, [], ◌∷◌, length, take, codes, decimal, Option, Some, None, option_map, Ok, Err}
+-- What a call of the program answers and what it leaves behind.
+use Rattle.std.specs.Prelude.{◌≡◌, ◌≢◌, ◌⊎◌, ℕ, ◌<◌, ◌++◌, true, List, [], ◌∷◌, length, take, codes, decimal, Option, Some, None, option_map, Ok, Err}
 use Rattle.std.specs.Borrow.{Bor}
 use Rattle.vg_model.specs.Graph.{Graph}
 use Rattle.vg_model.specs.Visit.{ip4_visit}
@@ -17,17 +17,23 @@ use Rattle.vg_report.specs.declared.reports.Report.{Report}
 use Rattle.vg_report.specs.Text.{text}
 use Rattle.vgd.specs.declared.refusals.Refusal.{Refusal}
 use Rattle.vgd.specs.declared.refusals.Refusal.TheVariants as refusals
-use Rattle.vg_plan.specs.Plan.{first_generation}
-use Rattle.vg_words.specs.Command.{Run, texts}
+use Rattle.vg_plan.specs.Plan.{Planned, first_generation}
+use Rattle.vg_words.specs.Command.{Run, Check, texts}
 use Rattle.vg_turns.specs.declared.steps.Step.{Step}
 use Rattle.vg_turns.specs.Turns.{turns as turns_in}
 use Rattle.vg_check.specs.Output.{IsOutput}
 use Rattle.vg_check.specs.OneWorker.{alone, HasOwnEnds}
+use Rattle.vg_check.specs.declared.verdicts.Verdict.{Verdict}
+use Rattle.vg_check.specs.Verdicts.{IsVerdict, IsAccepted}
 use Rattle.vgd.specs.declared.done.RunEnd.{RunEnd}
-use Rattle.vgd.specs.Command.{run_asked, setting_of}
+use Rattle.vg_load.specs.declared.summaries.Load.{Load}
+use Rattle.vg_load.specs.Summary.{summary}
+use Rattle.vgd.specs.Command.{run_asked, load_asked, check_asked, setting_of}
 use Rattle.vgd.specs.Plan.{graphs_of}
 use Rattle.vgd.specs.Files.{FileBytes, HoldsFiles, IsLoadedNext}
+use Rattle.vgd.specs.Checks.{CheckBytes, HoldsChecked, IsCheckedNext, AreInputs, case_in, verdict_words}
 use Rattle.vgd.specs.Ended.{HasEnded}
+use Rattle.vgd.specs.Lossless.{IsLossless}
 
 -- a call: its words, and of the folder, before and after, its files where it tells them and how often calls on a name have failed
 pub record Call : Type 0 where
@@ -68,10 +74,19 @@ pub record IsDone (call : Call) (line : List ℕ) : Type 0 where
   -- where there is one generation, and no packet was dropped by a full queue or by the limit of legs, one worker saves the same
   pub alike : length graphs ≡ 1 → HasOwnEnds report
       → (other : Report) × IsOutput ip4_visit graphs (first_generation script capture) (alone (setting_of run)) capture other tx
+  -- where the words ask to hold frames back, no queue refuses one
+  pub lossless : run.hold ≡ true → IsLossless ip4_visit graphs (first_generation script capture) (setting_of run) capture report tx
 
 -- and this is the end of the run whose report was printed
 abbrev pub IsEndOf : {call : Call} {line : List ℕ} → IsDone call line → RunEnd → Type 0
 IsEndOf done end = HasEnded done.run.workers done.graphs done.output.js end
+
+-- a load is done: this is the text that tells of it, and the folder's files are as before
+pub record IsLoadDone (call : Call) (line : List ℕ) : Type 0 where
+  pub load : Load
+  pub is_command : load_asked call.words ≡ Some load
+  pub printed : line ≡ summary load.seed load.packets load.workers
+  pub same : call.files_after ≡ call.files
 
 -- a file that the words name couldn't be loaded; those before it were
 pub record IsLoadFault (call : Call) (name : List ℕ) : Type 0 where
@@ -119,14 +134,85 @@ pub record IsSaveFault (call : Call) (name : List ℕ) : Type 0 where
   pub fault : Rose (call.faults name) (call.faults_after name)
   pub others : SameElsewhere call.files call.files_after name
 
--- why a run is refused, and what it leaves of the folder
+-- the words ask for nothing
+abbrev pub AsksNothing : List (List ℕ) → Type 0
+AsksNothing words = (run_asked words ≡ None) × (load_asked words ≡ None) × (check_asked words ≡ None)
+
+-- why a run is refused, or words that ask for nothing, and what it leaves of the folder
+abbrev pub IsRunRefused : Call → Refusal → Type 0
+IsRunRefused call refusals.Usage = AsksNothing call.words × (call.files_after ≡ call.files)
+IsRunRefused call (refusals.Load name) = IsLoadFault call name.now × (call.files_after ≡ call.files)
+IsRunRefused call (refusals.Capture fault) = IsCaptureFault call fault × (call.files_after ≡ call.files)
+IsRunRefused call (refusals.Script error) = IsScriptFault call error × (call.files_after ≡ call.files)
+IsRunRefused call (refusals.Turns place) = IsTurnsFault call place × (call.files_after ≡ call.files)
+IsRunRefused call (refusals.Save name) = IsSaveFault call name.now
+IsRunRefused call (refusals.Verdict verdict) = ⊥
+
+-- the words ask for this check, and these are the bytes of its files, where the folder tells them
+pub record AreChecked (call : Call) (check : Check) (bytes : CheckBytes) : Type 0 where
+  pub is_command : check_asked call.words ≡ Some check
+  pub files : HoldsChecked call.files check bytes
+
+-- a check answers yes: some run of the plan and the capture may have put out the savefile and the report; the folder is as before
+pub record IsCheckDone (call : Call) (line : List ℕ) : Type 0 where
+  pub check : Check
+  pub bytes : CheckBytes
+  pub loaded : AreChecked call check bytes
+  pub capture : Capture
+  pub plan : Planned
+  pub inputs : AreInputs bytes capture plan
+  pub accepted : IsAccepted (case_in check.queue bytes capture plan)
+  pub printed : line ≡ codes "yes" ++ 10 ∷ []
+  pub same : call.files_after ≡ call.files
+
+-- a check answers no: no run may have put both out, and this is the first point that fails
+pub record IsDenied (call : Call) (verdict : Verdict) : Type 0 where
+  pub check : Check
+  pub bytes : CheckBytes
+  pub loaded : AreChecked call check bytes
+  pub capture : Capture
+  pub plan : Planned
+  pub inputs : AreInputs bytes capture plan
+  pub first : IsVerdict (case_in check.queue bytes capture plan) verdict
+  pub denied : ¬ IsAccepted (case_in check.queue bytes capture plan)
+
+-- a file that the words of a check name couldn't be loaded; those before it were
+pub record IsCheckLoadFault (call : Call) (name : List ℕ) : Type 0 where
+  pub check : Check
+  pub is_command : check_asked call.words ≡ Some check
+  pub named : IsCheckedNext call.files check name
+  pub fault : FailedLoad call.files name (call.faults name) (call.faults_after name)
+
+-- the capture of a check is no savefile: this is its first check that fails
+pub record IsCheckCaptureFault (call : Call) (fault : CaptureError) : Type 0 where
+  pub check : Check
+  pub bytes : CheckBytes
+  pub loaded : AreChecked call check bytes
+  pub is_fault : capture_of bytes.capture ≡ Err fault
+  pub no_memory : fault ≢ faults.Memory
+
+-- the capture of a check is accepted, and the script is not
+pub record IsCheckScriptFault (call : Call) (error : ScriptError) : Type 0 where
+  pub check : Check
+  pub bytes : CheckBytes
+  pub loaded : AreChecked call check bytes
+  pub capture : Capture
+  pub is_capture : capture_of bytes.capture ≡ Ok capture
+  pub is_fault : graphs_of bytes.script ≡ Err error
+
+-- why a check is refused; the folder is as before
+abbrev pub IsCheckRefused : Call → Refusal → Type 0
+IsCheckRefused call refusals.Usage = ⊥
+IsCheckRefused call (refusals.Load name) = IsCheckLoadFault call name.now × (call.files_after ≡ call.files)
+IsCheckRefused call (refusals.Capture fault) = IsCheckCaptureFault call fault × (call.files_after ≡ call.files)
+IsCheckRefused call (refusals.Script error) = IsCheckScriptFault call error × (call.files_after ≡ call.files)
+IsCheckRefused call (refusals.Turns place) = ⊥
+IsCheckRefused call (refusals.Save name) = ⊥
+IsCheckRefused call (refusals.Verdict verdict) = IsDenied call verdict × (call.files_after ≡ call.files)
+
+-- why a call is refused, and what it leaves of the folder
 abbrev pub IsRefused : Call → Refusal → Type 0
-IsRefused call refusals.Usage = (run_asked call.words ≡ None) × (call.files_after ≡ call.files)
-IsRefused call (refusals.Load name) = IsLoadFault call name.now × (call.files_after ≡ call.files)
-IsRefused call (refusals.Capture fault) = IsCaptureFault call fault × (call.files_after ≡ call.files)
-IsRefused call (refusals.Script error) = IsScriptFault call error × (call.files_after ≡ call.files)
-IsRefused call (refusals.Turns place) = IsTurnsFault call place × (call.files_after ≡ call.files)
-IsRefused call (refusals.Save name) = IsSaveFault call name.now
+IsRefused call refusal = IsRunRefused call refusal ⊎ IsCheckRefused call refusal
 
 -- the status of a refusal
 abbrev pub status_of : Refusal → ℕ
@@ -136,6 +222,7 @@ status_of (refusals.Capture fault) = 4
 status_of (refusals.Script error) = 5
 status_of (refusals.Save name) = 6
 status_of (refusals.Turns place) = 8
+status_of (refusals.Verdict verdict) = 9
 
 -- the words for a capture's fault: its cause and its place
 abbrev pub capture_fault : CaptureError → List ℕ
@@ -160,6 +247,7 @@ words_of (refusals.Capture fault) = codes "capture " ++ capture_fault fault
 words_of (refusals.Script error) = codes "script " ++ script_fault error
 words_of (refusals.Turns place) = codes "turns " ++ decimal place
 words_of (refusals.Save name) = codes "save " ++ name.now
+words_of (refusals.Verdict verdict) = verdict_words verdict
 
 -- the line with its line feed
 abbrev pub line_of : Refusal → List ℕ
@@ -168,7 +256,7 @@ line_of refusal = words_of refusal ++ 10 ∷ []
 -- the status that is due, but for want of memory and for faults of printing, and the text to print with it
 abbrev pub IsDue : Call → ℕ → List ℕ → Type 0
 IsDue call status line =
-    ((status ≡ 0) × IsDone call line)
+    ((status ≡ 0) × (IsDone call line ⊎ (IsLoadDone call line ⊎ IsCheckDone call line)))
     ⊎ ((refusal : Refusal) × (status ≡ status_of refusal) × (line ≡ line_of refusal) × IsRefused call refusal)
 
 -- where the sink tells its bytes, these were added

@@ -27,6 +27,7 @@ IsLoadOf P (refusals.Capture fault) = ⊥
 IsLoadOf P (refusals.Script error) = ⊥
 IsLoadOf P (refusals.Turns place) = ⊥
 IsLoadOf P (refusals.Save name) = ⊥
+IsLoadOf P (refusals.Verdict verdict) = ⊥
 
 -- what was loaded is refused, for so many workers: the capture is no savefile; or it is one, and the script is none whose edits can all be
 -- made; or both are accepted, and the turns file has a faulty byte
@@ -39,6 +40,7 @@ IsRefusedFor workers bytes (refusals.Turns place) =
     ((c : Capture) × (capture_of bytes.capture ≡ Ok c)) × ((graphs : List Graph) × (graphs_of bytes.script ≡ Ok graphs))
     × (turns_in workers bytes.turns ≡ Err place)
 IsRefusedFor workers bytes (refusals.Save name) = ⊥
+IsRefusedFor workers bytes (refusals.Verdict verdict) = ⊥
 
 -- all is accepted: these are the capture and the plan, and the turns file is kept
 pub record AreRead (workers : ℕ) (bytes : FileBytes) (input : Input) : Type 0 where

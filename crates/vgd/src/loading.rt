@@ -23,7 +23,11 @@ pub struct Files {
 }
 
 /// Loads a file of at most so many bytes, or one byte more of it where it is longer.
-fn load_file<'a, F: Folder>(folder: &mut F, name: &'a str, limit: usize) -> Result<Bytes, Stop<'a>>
+pub(crate) fn load_file<'a, F: Folder>(
+    folder: &mut F,
+    name: &'a str,
+    limit: usize,
+) -> Result<Bytes, Stop<'a>>
     ensures bytes { IfOk result (FirstBytes (F.contents folder.old) name.now (limit + 1)) }
     ensures same { F.contents folder.new ≡ F.contents folder.old }
     ensures later { (other : List ℕ) → F.faults folder.old other ≤ F.faults folder.new other }

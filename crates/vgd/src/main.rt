@@ -1,8 +1,18 @@
 //! `vgd`: the packets of a savefile through a graph of nodes.
 #![tactic(auto)]
 
+#[cfg(test)]
+mod check_tests;
+pub mod checking;
 pub mod done;
+pub mod dues;
+#[cfg(test)]
+mod hold_tests;
+pub mod load;
+#[cfg(test)]
+mod load_tests;
 pub mod loading;
+pub mod lossless;
 #[cfg(test)]
 mod memory_runs;
 pub mod printing;
@@ -21,6 +31,7 @@ use std::process::ExitCode;
 use std::rt::Env;
 use std::{env, io};
 use top::vgd_run;
+use vg_explain::{Keeping, explain_vgd};
 use vg_outside::{OpenGate, RealFolder, RealSink};
 
 /// The words after the program's name.
@@ -48,7 +59,7 @@ fn main(rt: HostRuntime) -> ExitCode {
         return ExitCode::from(1);
     };
     let mut folder = RealFolder::new(rt);
-    let mut out = RealSink::new(rt);
+    let mut out = Keeping::new(alloc, RealSink::new(rt));
     let done = vgd_run(
         &rt,
         alloc,
@@ -57,5 +68,9 @@ fn main(rt: HostRuntime) -> ExitCode {
         &mut out,
         &OpenGate,
     );
+    if done.status != 0 {
+        // An explanation that can't be written changes nothing.
+        let _ = explain_vgd(&rt, words.as_slice(), done.status, out.kept());
+    }
     ExitCode::from(done.status)
 }

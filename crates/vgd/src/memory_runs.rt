@@ -4,7 +4,8 @@ use crate::done::{Done, RunEnd};
 use crate::top::vgd_run;
 use std::alloc::{AllocError, Global};
 use std::sync::Wait;
-use vg_outside::{OpenGate, SureFolder, SureSink};
+use std::thread::Threads;
+use vg_outside::{Gate, OpenGate, SureFolder, SureSink};
 
 /// A savefile of no packets: little-endian, microseconds, version 2.4, snaplen 262,144, Ethernet.
 pub(crate) const HEADER: [u8; 24] = [
@@ -101,11 +102,12 @@ pub(crate) struct Ran {
     pub(crate) ran: Option<RunEnd>,
 }
 
-/// Calls the program over a folder of these files.
-pub(crate) fn run_with<R: Wait + AllocGlobal>(
+/// Calls the program over a folder of these files, and a gate.
+pub(crate) fn run_gated<R: Wait + Threads + Sync + AllocGlobal, G: Gate>(
     rt: &R,
     words: &[&str],
     files: &[(&str, &[u8])],
+    gate: &G,
 ) -> Result<Ran, AllocError> {
     let alloc = rt.alloc();
     let mut folder = SureFolder::new(alloc);
@@ -113,7 +115,7 @@ pub(crate) fn run_with<R: Wait + AllocGlobal>(
         folder.add(name, bytes)?;
     }
     let mut out = SureSink::new(alloc);
-    let Done { status, ran } = vgd_run(rt, alloc, words, &mut folder, &mut out, &OpenGate);
+    let Done { status, ran } = vgd_run(rt, alloc, words, &mut folder, &mut out, gate);
     Ok(Ran {
         status,
         printed: out.written().to_vec(alloc)?,
@@ -125,8 +127,17 @@ pub(crate) fn run_with<R: Wait + AllocGlobal>(
     })
 }
 
+/// Calls the program over a folder of these files.
+pub(crate) fn run_with<R: Wait + Threads + Sync + AllocGlobal>(
+    rt: &R,
+    words: &[&str],
+    files: &[(&str, &[u8])],
+) -> Result<Ran, AllocError> {
+    run_gated(rt, words, files, &OpenGate)
+}
+
 /// Calls the program over a capture and a script.
-pub(crate) fn run_over<R: Wait + AllocGlobal>(
+pub(crate) fn run_over<R: Wait + Threads + Sync + AllocGlobal>(
     rt: &R,
     words: &[&str],
     capture: &[u8],

@@ -25,7 +25,7 @@ pub struct Input {
 }
 
 /// The plan that a script makes.
-fn read_script(alloc: Global, text: &[u8]) -> Result<Plan, ScriptError>
+pub fn read_script(alloc: Global, text: &[u8]) -> Result<Plan, ScriptError>
     ensures plan { IfOk result (MakesPlan text.now) }
     ensures refused { IfErr result (IsRefusalFor text.now) }
 {

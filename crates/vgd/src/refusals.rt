@@ -1,12 +1,15 @@
-//! Why a run is refused.
+//! Why a call is refused.
 ghost use Rattle.std.specs.Prelude.{◌≡◌, [], ◌∷◌, ◌++◌, codes, decimal, IfOk, string_bytes};
+ghost use Rattle.vgd.specs.Checks.{report_cause, verdict_words};
 ghost use Rattle.vgd.specs.Run.{status_of, line_of, capture_fault, script_fault};
 
 use std::alloc::{AllocError, Global};
 use vg_capture::CaptureError;
+use vg_check::Verdict;
+use vg_report::ReportCause;
 use vg_script::ScriptError;
 
-/// Why a run is refused, with the name of the file where it was one.
+/// Why a call is refused, with the name of the file where it was one.
 #[derive(Clone, Copy, Debug)]
 pub enum Refusal<'a> {
     /// The words ask for no run.
@@ -21,6 +24,8 @@ pub enum Refusal<'a> {
     Turns(u32),
     /// This file could not be saved.
     Save(&'a str),
+    /// The savefile and the report that are checked are not what any run puts out: a verdict that is not yes.
+    Verdict(Verdict),
 }
 
 /// Why a run stops before anything was saved.
@@ -33,7 +38,7 @@ pub enum Stop<'a> {
 }
 
 impl Refusal<'_> {
-    /// The exit status: 2 for the words, 3 for a load, 4 for the capture, 5 for the script, 6 for the save, 8 for the turns file.
+    /// The exit status: 2 for the words, 3 for a load, 4 for the capture, 5 for the script, 6 for the save, 8 for the turns file, 9 for a verdict.
     pub fn status(&self) -> u8
         ensures { result ≡ status_of self.now }
     {
@@ -44,6 +49,7 @@ impl Refusal<'_> {
             Refusal::Script(_) => 5,
             Refusal::Turns(_) => 8,
             Refusal::Save(_) => 6,
+            Refusal::Verdict(_) => 9,
         }
     }
 
@@ -58,6 +64,7 @@ impl Refusal<'_> {
             Refusal::Script(fault) => script_line(alloc, *fault),
             Refusal::Turns(place) => format!(in alloc; "turns {place}\n"),
             Refusal::Save(name) => format!(in alloc; "save {name}\n"),
+            Refusal::Verdict(verdict) => verdict_line(alloc, *verdict),
         }
     }
 }
@@ -93,4 +100,39 @@ fn line_and_cause(alloc: Global, line: u32, cause: &str) -> Result<String, Alloc
     ensures { IfOk result (λ text. string_bytes text ≡ codes "script " ++ (decimal line ++ 32 ∷ cause.now) ++ 10 ∷ []) }
 {
     format!(in alloc; "script {line} {cause}\n")
+}
+
+/// The word for the cause of a line that no report has.
+fn report_word(cause: ReportCause) -> &'static str
+    ensures { result.now ≡ report_cause cause }
+{
+    match cause {
+        ReportCause::Form => "form",
+        ReportCause::Number => "number",
+        ReportCause::Unknown => "unknown",
+        ReportCause::Order => "order",
+        ReportCause::Memory => "memory",
+    }
+}
+
+/// The line of a verdict on a report's text: the line of the text and the cause.
+fn report_line(alloc: Global, line: u32, cause: &str) -> Result<String, AllocError>
+    ensures { IfOk result (λ text. string_bytes text ≡ codes "no report " ++ (decimal line ++ 32 ∷ cause.now) ++ 10 ∷ []) }
+{
+    format!(in alloc; "no report {line} {cause}\n")
+}
+
+/// The line of a verdict: `yes`, or `no`, what is not as it must be, and where.
+fn verdict_line(alloc: Global, verdict: Verdict) -> Result<String, AllocError>
+    ensures { IfOk result (λ line. string_bytes line ≡ verdict_words verdict ++ 10 ∷ []) }
+{
+    match verdict {
+        Verdict::Yes => String::from_str(alloc, "yes\n"),
+        Verdict::Report { line, cause } => report_line(alloc, line, report_word(cause)),
+        Verdict::Head => String::from_str(alloc, "no head\n"),
+        Verdict::Choices(number) => format!(in alloc; "no choices {number}\n"),
+        Verdict::Queue(number) => format!(in alloc; "no queue {number}\n"),
+        Verdict::Text => String::from_str(alloc, "no text\n"),
+        Verdict::Tx => String::from_str(alloc, "no tx\n"),
+    }
 }

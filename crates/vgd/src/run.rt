@@ -4,63 +4,36 @@ ghost use Rattle.vg_model.specs.Visit.{ip4_visit};
 ghost use Rattle.vg_capture.specs.Savefile.{savefile};
 ghost use Rattle.vg_plan.specs.Plan.{first_generation};
 ghost use Rattle.vg_dispatch.specs.Progress.{AreInRange};
+ghost use Rattle.vg_engine.specs.Linked.{AreLinked};
 ghost use Rattle.vg_engine.specs.Orders.{AreTurns};
 ghost use Rattle.vg_engine.specs.Outcomes.{IsOutcome};
 ghost use Rattle.vg_words.specs.Shown.{run_shown};
-ghost use Rattle.vg_words.specs.Command.{texts};
-ghost use Rattle.vgd.specs.Command.{options_of as options_in, run_asked};
-ghost use Rattle.vgd.specs.Run.{called, status_of, line_of};
-ghost use Rattle.vgd.specs.Dues.{IsDueFor, IsDueOf, AreResultsOf};
+ghost use Rattle.vgd.specs.Command.{options_of as options_in};
+ghost use Rattle.vgd.specs.Run.{called};
+ghost use Rattle.vgd.specs.Dues.{IsDueOf, AreResultsOf};
 
+use crate::checking::check_due;
 use crate::done::RunEnd;
+use crate::dues::{Due, refuse, stopped};
+use crate::load::load_due;
 use crate::loading::load_files;
+use crate::lossless::lossless_links;
 use crate::reading::{Input, read_files};
-use crate::refusals::{Refusal, Stop};
+use crate::refusals::Refusal;
 use crate::reporting::report;
 use std::alloc::{AllocError, Global};
 use std::sync::Wait;
+use std::thread::Threads;
 use vg_capture::{Capture, Savefile};
-use vg_dispatch::SentList;
-use vg_engine::{Options, Outcome, links_of, run_turns};
+use vg_dispatch::{Links, SentList};
+use vg_engine::{Options, Outcome, links_of, run_threads, run_turns};
+use vg_hands::{HandFrame, Handoff};
+use vg_load::Load;
 use vg_model::{Bytes, Memory};
 use vg_nodes::Ip4Kinds;
 use vg_outside::{Folder, Gate};
 use vg_report::write_report;
 use vg_words::{Command, Run, read_words};
-
-/// What is due at the end: the exit status, the text to print, and the end of a run that is done.
-#[derive(Drop)]
-pub struct Due {
-    pub status: u8,
-    pub text: Bytes,
-    pub ran: Option<RunEnd>,
-}
-
-/// What is due where a run is refused.
-fn refuse(alloc: Global, refusal: Refusal<'_>) -> Result<Due, Memory>
-    ensures status { IfOk result (λ due. due.status ≡ status_of refusal.entry) }
-    ensures text { IfOk result (λ due. due.text ≡ line_of refusal.entry) }
-    ensures ran { IfOk result (λ due. due.ran ≡ None) }
-{
-    let Ok(text) = refusal.line(alloc) else {
-        return Err(Memory);
-    };
-    Ok(Due {
-        status: refusal.status(),
-        text: Bytes::from_vec(text.into_bytes()),
-        ran: None,
-    })
-}
-
-/// What is due where a run stops.
-fn stopped(alloc: Global, stop: Stop<'_>) -> Result<Due, Memory>
-    ensures { IfOk result (IsDueFor stop.entry) }
-{
-    match stop {
-        Stop::Memory => Err(Memory),
-        Stop::Refused(refusal) => refuse(alloc, refusal),
-    }
-}
 
 /// What a run gives: the savefile, the text of its report, and its end.
 #[derive(Drop)]
@@ -92,35 +65,64 @@ fn savefile_of(alloc: Global, capture: &Capture, sent: &SentList) -> Result<Byte
     Ok(file.end())
 }
 
-/// Runs the packets on the workers, with these turns first where there is a file of them.
-fn run_workers<R: Wait, G: Gate>(
+/// Runs the packets on workers that are linked by these queues: by these turns where there is a file of them, and else with each worker
+/// in a thread.
+fn run_linked<H: Handoff<HandFrame> + Send, R: Wait + Threads + Sync, G: Gate>(
     rt: &R,
     alloc: Global,
     input: &vg_engine::Input<'_>,
+    links: Links<H>,
+    turns: Option<&[u8]>,
+    gate: &G,
+) -> Result<Outcome, Memory>
+    requires options { AreInRange input.now.options.now }
+    requires links { AreLinked H.accepted H.ring H.slots input.now.options.now.workers input.now.options.now.queue links.workers.items }
+    requires turns { AreTurns input.now.options.now.workers (unwrap_or (option_map (λ bytes. bytes.now) turns) []) }
+    ensures { IfOk result (IsOutcome ip4_visit H.LOSSLESS input.now.plan.now.graphs
+        (first_generation input.now.plan.now.script input.now.capture.now) input.now.capture.now input.now.options.now) }
+{
+    match turns {
+        Some(turns) => run_turns(rt, alloc, input, &Ip4Kinds, links, gate, turns),
+        None => run_threads(rt, alloc, input, &Ip4Kinds, links, gate),
+    }
+}
+
+/// Runs the packets on the workers, whose queues hold back or drop the frames for which they have no slot: by these turns where there is
+/// a file of them, and else with each worker in a thread.
+pub fn run_workers<R: Wait + Threads + Sync, G: Gate>(
+    rt: &R,
+    alloc: Global,
+    input: &vg_engine::Input<'_>,
+    hold: bool,
     turns: Option<&[u8]>,
     gate: &G,
 ) -> Result<Outcome, Memory>
     requires options { AreInRange input.now.options.now }
     requires turns { AreTurns input.now.options.now.workers (unwrap_or (option_map (λ bytes. bytes.now) turns) []) }
-    ensures { IfOk result (IsOutcome ip4_visit false input.now.plan.now.graphs
+    ensures { IfOk result (IsOutcome ip4_visit hold input.now.plan.now.graphs
         (first_generation input.now.plan.now.script input.now.capture.now) input.now.capture.now input.now.options.now) }
 {
-    let links = links_of(alloc, input.options.workers, input.options.queue)?;
-    let turns = turns.unwrap_or(&[]);
-    run_turns(rt, alloc, input, &Ip4Kinds, links, gate, turns)
+    if hold {
+        let links = lossless_links(alloc, input.options)?;
+        run_linked(rt, alloc, input, links, turns, gate)
+    } else {
+        let links = links_of(alloc, input.options.workers, input.options.queue)?;
+        run_linked(rt, alloc, input, links, turns, gate)
+    }
 }
 
 /// What the packets become.
-fn forward<R: Wait, G: Gate>(
+fn forward<R: Wait + Threads + Sync, G: Gate>(
     rt: &R,
     alloc: Global,
     input: &Input,
     options: &Options,
+    hold: bool,
     gate: &G,
 ) -> Result<Results, Memory>
     requires options { AreInRange options.now }
     requires turns { AreTurns options.now.workers (unwrap_or input.now.turns []) }
-    ensures { IfOk result (AreResultsOf input.now.plan options.now input.now.capture) }
+    ensures { IfOk result (AreResultsOf input.now.plan options.now hold input.now.capture) }
 {
     let Input {
         capture,
@@ -138,6 +140,7 @@ fn forward<R: Wait, G: Gate>(
             capture,
             options,
         },
+        hold,
         turns,
         gate,
     )?;
@@ -164,16 +167,6 @@ fn options_of(run: &Run<'_>) -> Options
     }
 }
 
-/// The run that the words ask for, as far as it is built; None where they ask for none.
-fn asked<'a>(alloc: Global, words: &'a [&'a str]) -> Result<Option<Run<'a>>, Memory>
-    ensures { IfOk result (λ run. option_map run_shown run ≡ run_asked (texts words.now)) }
-{
-    match read_words(alloc, words)? {
-        Some(Command::Run(run)) => Ok(Some(run)),
-        _ => Ok(None),
-    }
-}
-
 // A capture has at most 65,536 packets.
 fn know_few(capture: &Capture)
     ensures { length capture.now.packets ≤ 65536 }
@@ -182,7 +175,7 @@ fn know_few(capture: &Capture)
 }
 
 /// Runs what the words ask for, up to the printing.
-pub fn run<F: Folder, G: Gate, R: Wait>(
+pub fn run<F: Folder, G: Gate, R: Wait + Threads + Sync>(
     rt: &R,
     alloc: Global,
     words: &[&str],
@@ -192,8 +185,24 @@ pub fn run<F: Folder, G: Gate, R: Wait>(
     ensures due { IfOk result (IsDueOf (called words.now (F.contents folder.old) (F.contents folder.new) (F.faults folder.old) (F.faults folder.new))) }
     ensures memory { OnErr result (F.contents folder.new ≡ F.contents folder.old) }
 {
-    let Some(run) = asked(alloc, words)? else {
-        return refuse(alloc, Refusal::Usage);
+    let run = match read_words(alloc, words)? {
+        Some(Command::Run(run)) => run,
+        Some(
+            Command::Load {
+                seed,
+                packets,
+                workers,
+            },
+        ) => {
+            let load = Load {
+                seed,
+                packets,
+                workers,
+            };
+            return load_due(rt, alloc, &load, gate);
+        }
+        Some(Command::Check(check)) => return check_due(alloc, &check, folder),
+        None => return refuse(alloc, Refusal::Usage),
     };
     let files = match load_files(folder, &run) {
         Ok(files) => files,
@@ -203,7 +212,14 @@ pub fn run<F: Folder, G: Gate, R: Wait>(
         Ok(input) => input,
         Err(stop) => return stopped(alloc, stop),
     };
-    let Results { tx, report, end } = forward(rt, alloc, &input, &options_of(&run), gate)?;
+    let Results { tx, report, end } = forward(
+        rt,
+        alloc,
+        &input,
+        &options_of(&run),
+        run.hold,
+        gate,
+    )?;
     let not_saved = refuse(alloc, Refusal::Save(run.tx))?;
     match folder.save(run.tx, tx.as_slice()) {
         Ok(()) => Ok(Due {

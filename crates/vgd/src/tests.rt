@@ -9,10 +9,11 @@ use std::num::NonZeroUsize;
 use std::process::Abort;
 use std::sync::Wait;
 use std::test::Fail;
+use std::thread::Threads;
 use vg_outside::{MemoryFolder, MemorySink, OpenGate, SureFolder};
 
 /// A run over these frames transmits those, and prints this report.
-fn assert_done<R: Abort + Wait + AllocGlobal>(
+fn assert_done<R: Abort + Wait + Threads + Sync + AllocGlobal>(
     rt: &R,
     script: &[u8],
     frames: &[Frame<'_>],
@@ -29,7 +30,7 @@ fn assert_done<R: Abort + Wait + AllocGlobal>(
 }
 
 /// A refused run has this status and prints this line, and saves nothing.
-fn assert_refused<R: Abort + Wait + AllocGlobal>(
+fn assert_refused<R: Abort + Wait + Threads + Sync + AllocGlobal>(
     rt: &R,
     words: &[&str],
     capture: &[u8],
@@ -362,7 +363,7 @@ fn nanoseconds_stay_nanoseconds(rt: HostRuntime) -> Result<(), Fail> {
 
 #[test]
 fn faulty_words_are_usage(rt: HostRuntime) -> Result<(), Fail> {
-    let faulty: [&[&str]; 13] = [
+    let faulty: [&[&str]; 14] = [
         &[],
         &["run", "c", "s"],
         &["run", "c", "s", "t", "u"],
@@ -372,6 +373,7 @@ fn faulty_words_are_usage(rt: HostRuntime) -> Result<(), Fail> {
         &["run", "--workers", "2", "--buffers", "767", "c", "s", "t"],
         &["run", "--turns", "c", "s", "t"],
         &["load", "0", "0", "1"],
+        &["run", "--hold", "--hold", "c", "s", "t"],
         &["--help"],
         &["load", "c", "s", "t"],
         &["run", "", "s", "t"],
@@ -521,7 +523,7 @@ fn one_more_than_may_be_is_refused(rt: HostRuntime) -> Result<(), Fail> {
 }
 
 /// A run with so many traces prints these lines before the last line of the report.
-fn assert_traced<R: Abort + Wait + AllocGlobal>(
+fn assert_traced<R: Abort + Wait + Threads + Sync + AllocGlobal>(
     rt: &R,
     trace: &str,
     lines: &str,
@@ -560,7 +562,7 @@ fn the_first_packets_are_traced(rt: HostRuntime) -> Result<(), Fail> {
 }
 
 /// A run over a folder whose call of this number fails has this status and prints this line.
-fn assert_fails<R: Abort + Wait + AllocGlobal>(
+fn assert_fails<R: Abort + Wait + Threads + Sync + AllocGlobal>(
     rt: &R,
     failing: u64,
     status: u8,
@@ -589,7 +591,7 @@ fn failed_loads_and_saves_are_told(rt: HostRuntime) -> Result<(), Fail> {
 }
 
 /// A run over a sink that takes so many bytes a call, and whose call of this number fails, has printed so many bytes.
-fn assert_front<R: Abort + Wait + AllocGlobal>(
+fn assert_front<R: Abort + Wait + Threads + Sync + AllocGlobal>(
     rt: &R,
     most: usize,
     failing: u64,

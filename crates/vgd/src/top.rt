@@ -1,24 +1,27 @@
 //! The top call.
-ghost use Rattle.std.specs.Prelude.{◌≡◌, ◌≢◌, ◌⊎◌, ◌≤◌, ℕ, List, IsSome, IsSomeAnd};
+ghost use Rattle.std.specs.Prelude.{◌≡◌, ◌≢◌, ◌⊎◌, ◌≤◌, ℕ, List, IsSome};
 ghost use Rattle.vg_outside.specs.Files.{Rose};
 ghost use Rattle.vgd.specs.declared.refusals.Refusal.{Refusal};
+ghost use Rattle.vgd.specs.Dues.{AreDone};
 ghost use Rattle.vgd.specs.Expected.{IsExpected};
-ghost use Rattle.vgd.specs.Run.{called, IsDone, IsEndOf, IsDue, IsRefused, status_of, line_of, Appends, AppendsFront};
+ghost use Rattle.vgd.specs.Run.{called, IsDue, IsRefused, status_of, line_of, Appends, AppendsFront};
 
 use crate::done::Done;
 use crate::printing::print;
 use crate::run::run;
 use std::alloc::Global;
 use std::sync::Wait;
+use std::thread::Threads;
 use vg_outside::{Folder, Gate, Sink};
 
 /// Runs what the words after the program's name ask for, over a folder and a sink, and answers the exit status, and where it is 0 the
-/// end of the run. Workers pass the gate at the beginning of each of their turns.
+/// end of the run. Workers run in threads, but where a turns file says their turns, and pass the gate at the beginning of each turn.
 ///
-/// 0: the run is done, its savefile is saved and its report is printed. 1: memory ran out, and nothing was saved or printed.
-/// 2 to 6 and 8: the run is refused, and one line is printed that says why. 7: the sink failed in the middle of what was to be
-/// printed; all else is as for the status that was due.
-pub fn vgd_run<F: Folder, O: Sink, G: Gate, R: Wait>(
+/// 0: the run is done, its savefile is saved and its report is printed; or the load is done, and the text that tells of it is printed; or
+/// a check answers yes, and that is printed. 1: memory ran out, and nothing was saved or printed. 2 to 6 and 8: the call is refused, and
+/// one line is printed that says why. 7: the sink failed in the middle of what was to be printed; all else is as for the status that was
+/// due. 9: a check answers no, and one line is printed that says what the first fault is.
+pub fn vgd_run<F: Folder, O: Sink, G: Gate, R: Wait + Threads + Sync>(
     rt: &R,
     alloc: Global,
     words: &[&str],
@@ -26,13 +29,12 @@ pub fn vgd_run<F: Folder, O: Sink, G: Gate, R: Wait>(
     out: &mut O,
     gate: &G,
 ) -> Done
-    ensures known { result.status ≤ 8 }
+    ensures known { result.status ≤ 9 }
 
-    // 0: the folder holds the savefile of the run, its report was printed, and what is answered is the end of the run that they tell of.
-    ensures done { result.status ≡ 0 → (line : List ℕ)
-        × ((done : IsDone (called words.now (F.contents folder.old) (F.contents folder.new) (F.faults folder.old) (F.faults folder.new)) line)
-        × Appends (O.written out.old) (O.written out.new) line
-        × IsSomeAnd result.ran (IsEndOf done)) }
+    // 0: a run is done: the folder holds its savefile, its report was printed, and what is answered is the end of the run that they tell of.
+    // Or a load is done, and the text that tells of it was printed; or a check answers yes, and that was printed: the folder is as it was.
+    ensures done { result.status ≡ 0 → (line : List ℕ) × Appends (O.written out.old) (O.written out.new) line
+        × AreDone (called words.now (F.contents folder.old) (F.contents folder.new) (F.faults folder.old) (F.faults folder.new)) line result.ran }
 
     // There is an end of a run at 0 alone.
     ensures ran { IsSome result.ran → result.status ≡ 0 }
@@ -40,7 +42,7 @@ pub fn vgd_run<F: Folder, O: Sink, G: Gate, R: Wait>(
     // 1: memory ran out.
     ensures memory { result.status ≡ 1 → (F.contents folder.new ≡ F.contents folder.old) × (O.written out.new ≡ O.written out.old) }
 
-    // 2 to 6 and 8: the run was refused, and the line of the refusal was printed.
+    // 2 to 6, 8 and 9: the call was refused, by 9 a check whose answer is no, and the line of the refusal was printed.
     ensures refused { 2 ≤ result.status → result.status ≢ 7 → (refusal : Refusal) × (result.status ≡ status_of refusal)
         × IsRefused (called words.now (F.contents folder.old) (F.contents folder.new) (F.faults folder.old) (F.faults folder.new)) refusal
         × Appends (O.written out.old) (O.written out.new) (line_of refusal) }

@@ -1,7 +1,7 @@
 //! Runs of several workers, over folders and sinks in memory.
 
 use crate::memory_runs::{
-    Frame, HEADER, RUN, Ran, bytes_of, run_over, run_with, savefile, savefile_at,
+    Frame, HEADER, RUN, Ran, bytes_of, run_gated, run_over, run_with, savefile, savefile_at,
 };
 use crate::top::vgd_run;
 use std::alloc::{AllocError, Global};
@@ -9,10 +9,11 @@ use std::num::NonZeroUsize;
 use std::process::Abort;
 use std::sync::Wait;
 use std::test::Fail;
-use vg_outside::{MemoryFolder, MemorySink, OpenGate};
+use std::thread::Threads;
+use vg_outside::{MeetGate, MemoryFolder, MemorySink, OpenGate};
 
 /// Each packet is handed over by its destination, and then sent straight to the interface.
-const HAND: &[u8] = b"node hand kind handoff-dst\narc hand resume ethernet-input\n\
+pub(crate) const HAND: &[u8] = b"node hand kind handoff-dst\narc hand resume ethernet-input\n\
     arc pg-input out hand\narc ethernet-input ip4 interface-tx\n";
 
 /// The same, but from a time on each packet is dropped behind the handoff.
@@ -21,13 +22,13 @@ const HAND_UP_TO_1000: &[u8] = b"node hand kind handoff-dst\narc hand resume eth
     at 1000\narc ethernet-input ip4 error-drop\nend\n";
 
 /// A frame from 192.0.2.1 to 10.0.0.1. Of two workers it is handed to worker 1.
-const TO_1: Frame<'static> = (
+pub(crate) const TO_1: Frame<'static> = (
     "02fe00000000 020000000001 0800 4500001400000000 4011aed7 c0000201 0a000001",
     34,
 );
 
 /// The report of a run of these packets by two workers, where no node but these was visited.
-fn report(
+pub(crate) fn report(
     alloc: Global,
     head: [u32; 3],
     counts: [u32; 6],
@@ -45,7 +46,7 @@ fn report(
 }
 
 /// A run that is done has printed this report and saved this file, and its two queues and its stamp are there.
-fn assert_ran<R: Abort + AllocGlobal>(
+pub(crate) fn assert_ran<R: Abort + AllocGlobal>(
     rt: &R,
     ran: Ran,
     report: &str,
@@ -158,7 +159,7 @@ fn a_packet_has_four_legs_at_most(rt: HostRuntime) -> Result<(), Fail> {
 }
 
 /// The packets of four workers: packet i goes to 10.0.k.9, where k is i mod 12, at i * 100 microseconds.
-fn rounds(
+pub(crate) fn rounds(
     alloc: Global,
     count: u32,
     ttl: u8,
@@ -181,7 +182,7 @@ fn rounds(
 }
 
 /// The script of four workers: each packet is handed over, and then forwarded on one of two interfaces.
-fn crossing(alloc: Global) -> Result<String, AllocError> {
+pub(crate) fn crossing(alloc: Global) -> Result<String, AllocError> {
     let mut script = String::from_str(
         alloc,
         "interface west mac 02:fe:00:00:00:01 mtu 1500 up\n\
@@ -321,7 +322,7 @@ fn a_queue_of_two_slots_refuses_a_third_frame(rt: HostRuntime) -> Result<(), Fai
 }
 
 /// A run with this turns file is refused with this status and this line.
-fn assert_turns<R: Abort + Wait + AllocGlobal>(
+fn assert_turns<R: Abort + Wait + Threads + Sync + AllocGlobal>(
     rt: &R,
     files: &[(&str, &[u8])],
     status: u8,
@@ -363,7 +364,7 @@ fn a_faulty_turns_file_is_told_last(rt: HostRuntime) -> Result<(), Fail> {
 
 /// A run by turns over a folder whose call of this number fails, and a sink that takes so many bytes a call and whose call of this
 /// number fails, has this status, has printed this text, and has saved the file or not.
-fn assert_faults<R: Abort + Wait + AllocGlobal>(
+fn assert_faults<R: Abort + Wait + Threads + Sync + AllocGlobal>(
     rt: &R,
     failing_file: Option<u64>,
     most: usize,
@@ -415,4 +416,18 @@ fn faults_of_the_sink_leave_a_front(rt: HostRuntime) -> Result<(), Fail> {
     }
     assert_faults(&rt, None, 100, Some(5), 0, report, true)?;
     assert_faults(&rt, None, 1, None, 0, report, true)
+}
+
+#[test]
+fn two_workers_run_at_once(rt: HostRuntime) -> Result<(), Fail> {
+    let capture = savefile(rt.alloc(), &[TO_1, TO_1])?;
+    let words = ["run", "--workers", "2", "c", "s", "t"];
+    let gate = MeetGate::new();
+    let files: [(&str, &[u8]); 2] = [("c", capture.as_slice()), ("s", HAND)];
+    let ran = run_gated(&rt, &words, &files, &gate)?;
+    assert_eq!(rt; ran.status, 0);
+    assert_eq!(rt; ran.tx.ok_or("no savefile")?, capture);
+    assert_eq!(rt; gate.met(), 2);
+    assert_eq!(rt; gate.given_up(), 0);
+    Ok(())
 }

@@ -4,11 +4,11 @@ use Rattle.vgd.proofs.ExpectedLemmas.{due_expected, done_at, refused_at, due_is}
 use Rattle.vgd.proofs.top.vgd_run.Goals as goal
 
 pub returns-in-Ok-print-clause-done : goal.returns-in-Ok-print-clause-done
-returns-in-Ok-print-clause-done g c = λ e.
-    let d = done_at _ c.in-Ok.due c.in-Ok.ensures.due e in (
-      c.in-Ok.due.text,
-      (d.0, subst (Appends (g.O.Sink.written c.args.out.now) (g.O.Sink.written c.print.new.out)) c.as_slice.ensures c.in-Ok-print.ensures.ok, d.1),
-    )
+returns-in-Ok-print-clause-done g c = λ e. (
+  c.in-Ok.due.text,
+  subst (Appends (g.O.Sink.written c.args.out.now) (g.O.Sink.written c.print.new.out)) c.as_slice.ensures c.in-Ok-print.ensures.ok,
+  done_at _ c.in-Ok.due c.in-Ok.ensures.due e,
+)
 
 pub returns-in-Ok-print-clause-refused : goal.returns-in-Ok-print-clause-refused
 returns-in-Ok-print-clause-refused g c = λ h i.
