@@ -1,7 +1,7 @@
 //! Checks of what runs put out, over folders and sinks in memory.
 
 use crate::memory_runs::{
-    EAST, FRAME, HEADER, RUN, WIRE, run_over, run_with, savefile, savefile_at,
+    EAST, FRAME, HEADER, RUN, Ran, WIRE, run_over, run_with, savefile, savefile_at,
 };
 use crate::worker_tests::{HAND, TO_1, crossing, report, rounds};
 use std::alloc::{AllocError, Global};
@@ -34,8 +34,7 @@ impl Output {
         script: &'static [u8],
         turns: &[u8],
     ) -> Result<Output, Fail> {
-        let files: [(&str, &[u8]); 3] = [("c", capture.as_slice()), ("s", script), ("u", turns)];
-        let ran = run_with(rt, words, &files)?;
+        let ran = run_by(rt, words, capture.as_slice(), script, turns)?;
         assert_eq!(rt; ran.status, 0);
         Ok(Output {
             tx: ran.tx.ok_or("no savefile")?,
@@ -101,6 +100,17 @@ impl Output {
         assert_eq!(rt; ran.tx.ok_or("no savefile")?.as_slice(), tx);
         Ok(())
     }
+}
+
+/// Calls the program over a capture, a script and turns.
+fn run_by<R: Wait + Threads + Sync + AllocGlobal>(
+    rt: &R,
+    words: &[&str],
+    capture: &[u8],
+    script: &[u8],
+    turns: &[u8],
+) -> Result<Ran, AllocError> {
+    run_with(rt, words, &[("c", capture), ("s", script), ("u", turns)])
 }
 
 /// The run of five packets by two workers whose queue has one slot, which is full at the third packet.
