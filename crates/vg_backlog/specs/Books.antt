@@ -16,7 +16,7 @@ pub record BacklogBook : Type 0 where
 abbrev pub empty_behind : (slots room : ℕ) → RingTx HandoffFrame → BacklogBook
 empty_behind slots room end = record { end = end; held = []; slots = slots; room = room }
 
--- all that it has accepted: in order, what was put in the ring, and then what it holds
+-- what it has accepted, in order: the frames that the ring was given, and behind them those that are held
 abbrev pub accepted_by : BacklogBook → List HandoffFrame
 accepted_by b = put b.end ++ b.held
 

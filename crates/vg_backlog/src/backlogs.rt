@@ -183,7 +183,7 @@ impl Handoff<HandFrame> for Backlog {
         Ok(())
     }
 
-    /// Pushes the frames that are held into the ring, from the front, until one is refused or none is left.
+    /// Moves held frames into the ring, the oldest first, as long as it takes them.
     fn tick(&mut self)
         ensures accepted { accepted_by self.new ≡ accepted_by self.old }
         ensures room { room_of self.old ≤ room_of self.new }

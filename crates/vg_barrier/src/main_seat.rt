@@ -137,9 +137,9 @@ impl<P: Parcel + Drop> MainSeat<P> {
 impl<P: Parcel + Drop> Asked<P> {
     ghost use Rattle.vg_barrier.specs.Answers.{CountsArrived};
 
-    /// Reads the arrival count: [`Parking::All`] comes only where it is the number of workers, and [`Parking::Wait`] only
-    /// where it is `seen`, which is less. At `All` main has the parcels of all workers: each fits the book, and all have
-    /// the generation of main's last release, which is 0 before the first.
+    /// Reads how many workers have arrived: all of them at [`Parking::All`], fewer at [`Parking::Wait`], which tells how many in
+    /// `seen`. With `All` every worker's parcel has come to main. Each of these fits the book, and their generation is the one that
+    /// main released last, or 0 where it has released none.
     pub fn poll(self, barrier: &Barrier<P>) -> Parking<P>
         requires { IsSeatOf self.seat barrier.now }
         ensures { CountsArrived self result }
@@ -194,8 +194,8 @@ impl<P: Parcel + Drop> Held<P> {
         &mut self.parcels[k]
     }
 
-    /// Releases the workers: each parcel goes back with the stamp plus one; then the stamp rises by one, and the request
-    /// word becomes even, twice the new stamp.
+    /// Lets the workers go. Every parcel is handed back under a stamp that is one higher, which is then the barrier's; the request
+    /// word says so by twice that stamp, an even number.
     pub fn release(self, barrier: &Barrier<P>) -> Clearing<P>
         requires seat { IsSeatOf self.main.seat barrier.now }
         requires parcels { MayReturn P.fits P.mark P.generation (main_view self.main.seat) self.parcels.items }

@@ -21,7 +21,7 @@ abbrev pub only_choices : {X : Type 0} → (ℕ → ℕ) → ℕ → List X → 
 only_choices first number [] = []
 only_choices first number (packet ∷ packets) = only_choice first number ∷ only_choices first (suc number) packets
 
--- an end that several workers alone don't bring: by no full queue, and by no limit of legs
+-- an end that one worker may bring too: neither by a full queue nor by the limit of legs
 abbrev pub IsOwnEnd : PacketEnd → Type 0
 IsOwnEnd (ends.Tx interface) = Unit {0}
 IsOwnEnd (ends.Dropped node error) = (error ≢ Congestion) × (error ≢ HandoffLimit)

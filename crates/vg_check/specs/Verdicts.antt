@@ -77,8 +77,8 @@ pub record IsSetting (setting : Setting) : Type 0 where
   pub buffers : (256 * setting.workers + 256 ≤ setting.buffers) × (setting.buffers ≤ 16384)
   pub trace : setting.trace ≤ 256
 
--- the text is that of a lawful report, and the savefile and the report are what a run puts out that is set so, with so many frames in a
--- handoff queue
+-- the text is that of a lawful report, and it and the savefile are what lawful choices make in a run that is set so, with so many frames
+-- in a handoff queue
 pub record IsAccepted (case : Case) : Type 0 where
   pub setting : Setting
   pub report : Report

@@ -120,8 +120,8 @@ fn verdict<K: KindSet>(
 
 /// Checks a report and a savefile against a plan and a capture, with so many frames in a handoff queue.
 ///
-/// It answers `Yes` exactly where some run of the plan and the capture may have put both out, and else the first of its points that
-/// fails. Each packet is walked once, and one generation is kept at a time.
+/// It answers `Yes` exactly where lawful choices of the plan and the capture make both, and else the first of its points that fails. So
+/// what any run puts out is accepted; that some order of turns leads to the choices isn't asked. Each packet is walked once, and one generation is kept at a time.
 ///
 /// # Errors
 ///

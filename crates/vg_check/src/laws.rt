@@ -15,8 +15,8 @@ ghost use Rattle.vg_check.specs.declared.verdicts.Verdict.TheVariants as verdict
 ghost use Rattle.vg_check.specs.Verdicts.{Case, IsVerdict, IsAccepted};
 ghost use Rattle.vg_check.specs.OneWorker.{alone, only_choices, HasOwnEnds};
 
-/// With one worker there is nothing to choose: each packet has the one leg, on worker 0 under the generation of its time, and no
-/// queue refuses it. So a capture and a script have one report and one savefile.
+/// One worker leaves no choice. A packet's only leg is on worker 0, under the generation of its time, and there is no queue to refuse
+/// it; so report and savefile follow from the capture and the script.
 pub fn one_worker_leaves_no_choice()
     ensures choices { (visit : Visit) (graphs : List Graph) (slots : ℕ) (first : ℕ → ℕ) (packets : List (List ℕ)) (choices : List Choice) (js : List Journey)
         → AreLawfulChoices visit graphs 1 slots first packets choices js → choices ≡ only_choices first 0 packets }
@@ -48,7 +48,7 @@ pub fn lossless_queues_send_all()
         → (other : Report) × IsOutput visit (g ∷ []) first (alone setting) capture other tx }
 {}
 
-/// The first point that fails is none exactly where a run of some setting in range may have put the report and the savefile out.
+/// No point fails exactly where the report and the savefile are those of lawful choices, under some setting in range.
 pub fn yes_is_exact()
     ensures { (case : Case) (verdict : Verdict) → IsVerdict case verdict → (verdict ≡ verdicts.Yes) ↔ IsAccepted case }
 {}

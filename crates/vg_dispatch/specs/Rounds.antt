@@ -51,7 +51,7 @@ pub record IsRoundOf (run : Run) (lossless : Bool) (g : Graph) (generation limit
   -- first its handoffs tick
   pub ticked : ℕ → Outlet
   pub ticks : (to : ℕ) → IsTicked lossless (outlet_with to old.outlets) (ticked to)
-  -- then, where it is open, it tries one frame of each other worker, by rising number; or else it tries none
+  -- after that, unless its gate is closed, it looks for a frame of every other worker, the lowest number first
   pub took : List (List HandoffFrame)
   pub taken : (from : ℕ) → frames_with from new.taken ≡ frames_with from old.taken ++ frames_with from took
   pub one : (from : ℕ) → length (frames_with from took) ≤ 1

@@ -1,8 +1,8 @@
 //! What one worker does: rounds that take and draw packets, and dispatch frames until none is pending.
 //!
 //! A [`Worker`] draws its own packets of a capture into buffers, a burst at a time, takes frames of packets that other workers hand
-//! over, and dispatches them over a fork, frame by frame, as a thread of VLIB does. Packets that a handoff node hands to one other
-//! worker in one dispatch go as one frame over one queue. What became of a packet is logged, counted by node, error and interface,
+//! over, and dispatches them over a fork, frame by frame, as a thread of VLIB does. What a handoff node hands to another
+//! worker as it dispatches a frame is one frame on the queue to it. What became of a packet is logged, counted by node, error and interface,
 //! and, where it was transmitted, its bytes are kept in a [`SentList`]. The nodes that the first packets visit are noted, as many as
 //! the options' trace says. Between two rounds no packet is on its way in a worker.
 //!

@@ -26,7 +26,7 @@ fn is_little(head: &[u8]) -> bool {
 fn other_format(head: &[u8]) -> &'static str {
     match number_at(head, 0, false) {
         0x0a0d_0d0a => "it is a pcapng file: `editcap -F pcap FILE NEW` makes a savefile of it",
-        0x2853_b52f | 0x28b5_2ffd => "it is compressed: `zstd -d FILE -o NEW` unpacks it",
+        0x28b5_2ffd => "it is compressed: `zstd -d FILE -o NEW` unpacks it",
         0x0422_4d18 => "it is compressed: `lz4 -d FILE NEW` unpacks it",
         number if number >> 16 == 0x1f8b => "it is compressed: `gunzip -c FILE > NEW` unpacks it",
         _ =>

@@ -11,7 +11,7 @@ pub enum GraphError {
     UnknownSlot,
     /// Packets come into the target by no arc: it is of kind `PgInput` or `HandoffDequeue`.
     BadTarget,
-    /// The target is the node itself, or a walk over arcs leads from the target to it.
+    /// From the target one comes back to the node over arcs, or the two are one.
     Cycle,
     /// 64 nodes, 16 interfaces or 256 adjacencies are there.
     TooMany,

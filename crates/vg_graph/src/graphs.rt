@@ -215,8 +215,8 @@ impl Graph {
     /// - `Interface`: `TooMany` where the name is new and 16 interfaces are there.
     /// - `Node`: `DoubleName` where a node has the name; `TooMany` where 64 nodes are there.
     /// - `Arc`: `UnknownNode` where no node has the first name; `UnknownSlot` where its kind has no such slot;
-    ///   `UnknownNode` where no node has the target's name; `BadTarget` where the target is of kind `PgInput` or
-    ///   `HandoffDequeue`; `Cycle` where the target is the node itself, or a walk over arcs leads from it to the node.
+    ///   `UnknownNode` where no node has the target's name; `BadTarget` where no arc may lead to the target's
+    ///   kind, `PgInput` or `HandoffDequeue`; `Cycle` where one comes back to the node over arcs from the target, or the two are one.
     /// - `Adjacency`: `UnknownInterface` where no interface has the name; `TooMany` where the adjacency's name is new
     ///   and 256 adjacencies are there.
     ///

@@ -7,8 +7,8 @@ use std::sync::atomic::{AtomicU64, Ordering};
 ///
 /// A gate is shared by all workers, which may run in threads of their own.
 pub trait Gate: Sync {
-    /// Lets the worker of this number in. It is called first in each turn of a worker that hasn't stopped, a parked one's too, with
-    /// the number of its turns before, or 2^62 where there were more.
+    /// Lets the worker of this number in. Each of its turns begins with this call until it has stopped, also while it is parked; `turn`
+    /// counts the turns that came before, and stands still at 2^62.
     fn enter(&self, worker: u8, turn: u64);
 }
 

@@ -9,8 +9,8 @@ use crate::sink::{Failed, Sink};
 use std::alloc::{AllocError, Global};
 use vg_model::Bytes;
 
-/// A folder in memory. Beside want of memory it fails only at a load of a name that isn't there. It
-/// has one count of faults for all names.
+/// A folder in memory. A load of a name that it doesn't hold fails, and so does what there is no memory for; nothing else does. All
+/// names share one count of faults.
 #[derive(Drop)]
 pub struct SureFolder {
     pub files: FileMap,

@@ -25,8 +25,8 @@ struct Block {
 /// A buffer: a packet of at most [`LONGEST_PACKET`] bytes, its number, the mark `checked`, an adjacency and an interface to transmit
 /// on, where they are chosen, and the legs that it has done so far, at most four.
 ///
-/// It is one pointer to its block. Where it has the mark, the checks of its IPv4 header would pass as it is. A buffer that is
-/// dropped instead of freed is lost to its pool.
+/// It is one pointer to its block. A packet with the mark is one whose IPv4 header passes the checks just as its bytes stand. A buffer
+/// must be freed to come back to its pool: one that is dropped never does.
 #[derive(Drop)]
 pub struct Buffer {
     block: Box<Block>,

@@ -8,8 +8,8 @@
 //! list and the caller, and count it; `alloc` also clears the block's metadata. [`Pool::take`] and [`Pool::give`] move one pointer
 //! a buffer. No call copies a packet but [`Buffer::fill`], which copies it in.
 //!
-//! The pool's book says where the buffers are: the pool's list and the units out are the total, and the units out are those ever
-//! taken less those ever given back. Two ledgers carry the proof, and cost nothing when it runs. Type parameters name them, `T` for
+//! The pool's book says where the buffers are: each of the total is in the pool's list or is one of the units out, and these are what
+//! was ever taken without having been given back. Two ledgers carry the proof, and cost nothing when it runs. Type parameters name them, `T` for
 //! the buffers ever taken and `G` for those ever given back, so a cache is of a pool where both have the same.
 #![tactic(auto)]
 

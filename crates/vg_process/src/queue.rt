@@ -16,8 +16,7 @@ pub struct Turn {
     pub place: usize,
 }
 
-/// Places that wait. Those whose time the wheel has reached are in a list, so that nothing rests on the order in which the wheel
-/// gives timers that are due.
+/// Places that wait. What the wheel gives goes to a list first, for a wheel promises no order among timers of one time.
 #[derive(Drop)]
 pub struct Queue {
     pub wheel: Wheel,

@@ -9,8 +9,9 @@ use std::fmt;
 /// Why a text is no report.
 #[derive(Clone, Copy, Debug, PartialEq, Eq)]
 pub enum ReportCause {
-    /// A word is missing, is too many or isn't the fixed one; the line isn't of a kind that may follow; the text ends before
-    /// `end`, or goes on behind it; the last line has no line feed; or `congested` stands without `congestion`, or the reverse.
+    /// The line's words aren't those of its kind: one is missing, one is too many, or a fixed one is another. Or no line of this kind may
+    /// stand here. Or the text stops before `end`, goes on behind it, or leaves out the last line feed. Or one of `congested` and
+    /// `congestion` stands without the other.
     Form,
     /// A number isn't in decimal digits without leading zeros, or is out of its range; or the legs of a packet aren't one to four
     /// pairs `worker:generation` parted by `,`.

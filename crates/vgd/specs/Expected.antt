@@ -47,7 +47,7 @@ pub record IsCheckable (call : Call) (check : Check) (bytes : CheckBytes) : Type
   pub no_tx_fault : HasNoFault call check.tx
   pub no_report_fault : HasNoFault call check.report
 
--- the status that a check of an accepted capture and script brings: 0 where some run may have put out the savefile and the report, else 9
+-- the status that a check of an accepted capture and script brings: 0 where lawful choices make the savefile and the report, else 9
 abbrev pub IsVerdictStatus : Case → ℕ → Type 0
 IsVerdictStatus case status = ((status ≡ 0) × IsAccepted case) ⊎ ((status ≡ 9) × ¬ IsAccepted case)
 

@@ -153,7 +153,7 @@ pub record AreChecked (call : Call) (check : Check) (bytes : CheckBytes) : Type 
   pub is_command : check_asked call.words ≡ Some check
   pub files : HoldsChecked call.files check bytes
 
--- a check answers yes: some run of the plan and the capture may have put out the savefile and the report; the folder is as before
+-- a check answers yes: lawful choices of the plan and the capture make the savefile and the report; the folder is as before
 pub record IsCheckDone (call : Call) (line : List ℕ) : Type 0 where
   pub check : Check
   pub bytes : CheckBytes

@@ -12,7 +12,7 @@ use vg_script::ScriptError;
 /// Why a call is refused, with the name of the file where it was one.
 #[derive(Clone, Copy, Debug)]
 pub enum Refusal<'a> {
-    /// The words ask for no run.
+    /// The words ask for nothing that there is.
     Usage,
     /// This file could not be loaded.
     Load(&'a str),
