@@ -32,4 +32,3 @@ pub mod RoundSteps
 pub mod SeatLemmas
 pub mod TurnLemmas
 pub mod NewLemmas
-pub mod TestLemmas

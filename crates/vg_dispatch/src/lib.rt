@@ -11,8 +11,6 @@
 //! visits are counted once a frame, and noted packet by packet only where packets are traced.
 #![tactic(auto)]
 
-#[cfg(test)]
-mod barrier_tests;
 mod counting;
 mod gating;
 mod incoming;
@@ -26,8 +24,6 @@ mod seats;
 pub mod sent;
 pub mod stations;
 mod taking;
-#[cfg(test)]
-mod tests;
 pub mod turns;
 mod underway;
 pub mod workers;

@@ -23,10 +23,6 @@ pub mod runs;
 mod seats;
 mod started;
 mod teams;
-#[cfg(test)]
-mod tests;
-#[cfg(test)]
-mod thread_tests;
 pub mod threads;
 mod tied;
 

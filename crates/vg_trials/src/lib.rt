@@ -1,6 +1,11 @@
-//! Trials of the worker against the plain walk: the same packets go through the same graph in frames, and one by one. It is tests
-//! alone.
+//! Tests of runs, of the workers and of their barrier: what several crates come to together. It is tests alone.
 #![tactic(auto)]
 
 #[cfg(test)]
-mod tests;
+mod barrier_tests;
+#[cfg(test)]
+mod run_tests;
+#[cfg(test)]
+mod thread_tests;
+#[cfg(test)]
+mod walk_tests;
