@@ -17,6 +17,3 @@ pub use explaining::{Called, explain, explain_vgd};
 pub use keeping::Keeping;
 pub use scripts::script_fault;
 pub use text::{report_fault, turns_fault, verdict};
-
-#[cfg(test)]
-mod tests;

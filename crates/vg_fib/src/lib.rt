@@ -19,8 +19,6 @@
 
 pub mod laws;
 mod table;
-#[cfg(test)]
-mod tests;
 mod trie;
 
 pub use table::{Fib, FibError, MOST_ROUTES, NoSuchRoute};

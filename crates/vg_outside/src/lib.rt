@@ -15,8 +15,6 @@ pub mod real;
 pub mod saving;
 pub mod sink;
 pub mod sure;
-#[cfg(test)]
-mod tests;
 
 pub use calls::Calls;
 pub use file_map::FileMap;

@@ -11,8 +11,6 @@ mod generations;
 pub mod laws;
 pub mod masters;
 pub mod plans;
-#[cfg(test)]
-mod tests;
 mod windows;
 
 pub use books::Book;

@@ -19,8 +19,6 @@ pub mod caches;
 pub mod locked;
 pub mod pools;
 pub mod settled;
-#[cfg(test)]
-mod tests;
 
 pub use books::PoolLedger;
 pub use buffers::{Buffer, LONGEST_PACKET};

@@ -10,8 +10,6 @@ pub mod lists;
 mod parts;
 mod reading;
 pub mod reports;
-#[cfg(test)]
-mod tests;
 mod words;
 mod writing;
 

@@ -12,8 +12,6 @@ mod reader;
 mod reading;
 pub mod scripts;
 mod statements;
-#[cfg(test)]
-mod tests;
 mod words;
 mod writing;
 

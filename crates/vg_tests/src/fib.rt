@@ -1,0 +1,308 @@
+//! Tests of the table of routes.
+
+ghost use Rattle.std.specs.Prelude.{◌≤◌};
+
+use std::alloc::Global;
+use std::process::Abort;
+use std::test::Fail;
+use vg_fib::{Fib, FibError, MOST_ROUTES, Mtrie, NoSuchRoute, laws};
+use vg_model::{Prefix, RouteTo};
+
+// 0.0.0.0/0, 10.0.0.0/8 and 10.1.0.0/16.
+const EVERYWHERE: Prefix = Prefix { addr: 0, len: 0 };
+
+const TEN: Prefix = Prefix {
+    addr: 0x0a00_0000,
+    len: 8,
+};
+
+const TEN_ONE: Prefix = Prefix {
+    addr: 0x0a01_0000,
+    len: 16,
+};
+
+// The prefix that covers one address alone.
+fn host(address: u32) -> Prefix {
+    Prefix {
+        addr: address,
+        len: 32,
+    }
+}
+
+// Sets these routes in this order, and looks up three addresses in the table and in its copy.
+fn find_in_order(rt: &impl Abort, alloc: Global, order: &[(Prefix, RouteTo)]) -> Result<(), Fail> {
+    let mut fib = Fib::new(alloc)?;
+    for (prefix, to) in order {
+        fib.set(*prefix, *to)?;
+    }
+    assert_eq!(rt; fib.routes(), order);
+    find_longest(rt, &fib);
+    let copy = fib.copy()?;
+    assert_eq!(rt; copy.routes(), order);
+    find_longest(rt, &copy);
+    Ok(())
+}
+
+fn find_longest(rt: &impl Abort, fib: &Fib) {
+    assert_eq!(rt; fib.find(0x0a01_0203), Some(RouteTo::Via(16)));
+    assert_eq!(rt; fib.find(0x0a02_0001), Some(RouteTo::Via(8)));
+    assert_eq!(rt; fib.find(0xc000_0201), Some(RouteTo::Via(0)));
+}
+
+#[test]
+fn the_longest_prefix_wins_in_any_order(rt: HostRuntime) -> Result<(), Fail> {
+    let alloc = rt.alloc();
+    let everywhere = (EVERYWHERE, RouteTo::Via(0));
+    let ten = (TEN, RouteTo::Via(8));
+    let ten_one = (TEN_ONE, RouteTo::Via(16));
+    find_in_order(&rt, alloc, &[everywhere, ten, ten_one])?;
+    find_in_order(&rt, alloc, &[everywhere, ten_one, ten])?;
+    find_in_order(&rt, alloc, &[ten, everywhere, ten_one])?;
+    find_in_order(&rt, alloc, &[ten, ten_one, everywhere])?;
+    find_in_order(&rt, alloc, &[ten_one, everywhere, ten])?;
+    find_in_order(&rt, alloc, &[ten_one, ten, everywhere])?;
+    Ok(())
+}
+
+#[test]
+fn a_prefix_covers_from_its_first_address_to_its_last(rt: HostRuntime) -> Result<(), Fail> {
+    let mut fib = Fib::new(rt.alloc())?;
+    assert_eq!(rt; fib.find(0x0a01_0000), None);
+    fib.set(TEN_ONE, RouteTo::Local)?;
+    assert_eq!(rt; fib.find(0x0a00_ffff), None);
+    assert_eq!(rt; fib.find(0x0a01_0000), Some(RouteTo::Local));
+    assert_eq!(rt; fib.find(0x0a01_ffff), Some(RouteTo::Local));
+    assert_eq!(rt; fib.find(0x0a02_0000), None);
+
+    fib.set(host(0xffff_ffff), RouteTo::Via(1))?;
+    assert_eq!(rt; fib.find(0xffff_fffe), None);
+    assert_eq!(rt; fib.find(0xffff_ffff), Some(RouteTo::Via(1)));
+
+    fib.set(EVERYWHERE, RouteTo::Drop)?;
+    assert_eq!(rt; fib.find(0), Some(RouteTo::Drop));
+    assert_eq!(rt; fib.find(0x0a02_0000), Some(RouteTo::Drop));
+    assert_eq!(rt; fib.find(0xffff_ffff), Some(RouteTo::Via(1)));
+    Ok(())
+}
+
+#[test]
+fn a_prefix_has_one_route_until_it_is_removed(rt: HostRuntime) -> Result<(), Fail> {
+    let mut fib = Fib::new(rt.alloc())?;
+    assert_eq!(rt; fib.remove(TEN), Err(NoSuchRoute));
+    fib.set(TEN, RouteTo::Via(1))?;
+    fib.set(TEN_ONE, RouteTo::Via(2))?;
+    fib.set(TEN, RouteTo::Via(3))?;
+    assert_eq!(rt;
+        fib.routes(),
+        [(TEN, RouteTo::Via(3)), (TEN_ONE, RouteTo::Via(2))].as_slice()
+    );
+    assert_eq!(rt; fib.find(0x0a01_0203), Some(RouteTo::Via(2)));
+
+    assert_eq!(rt; fib.remove(TEN_ONE), Ok(()));
+    assert_eq!(rt; fib.remove(TEN_ONE), Err(NoSuchRoute));
+    assert_eq!(rt; fib.find(0x0a01_0203), Some(RouteTo::Via(3)));
+    assert_eq!(rt; fib.remove(TEN), Ok(()));
+    assert_eq!(rt; fib.find(0x0a01_0203), None);
+    assert!(rt; fib.routes().is_empty());
+    Ok(())
+}
+
+#[test]
+fn a_full_table_takes_known_prefixes_alone(rt: HostRuntime) -> Result<(), Fail> {
+    let mut fib = Fib::new(rt.alloc())?;
+    for address in 0..4096 {
+        fib.set(host(address), RouteTo::Local)?;
+    }
+    assert_eq!(rt; fib.routes().len(), MOST_ROUTES);
+    assert_eq!(rt; fib.set(host(4096), RouteTo::Local), Err(FibError::TooMany));
+    assert_eq!(rt; fib.routes().len(), MOST_ROUTES);
+    assert_eq!(rt; fib.find(4096), None);
+    fib.set(host(4095), RouteTo::Drop)?;
+    assert_eq!(rt; fib.find(4095), Some(RouteTo::Drop));
+    fib.remove(host(0))?;
+    fib.set(host(4096), RouteTo::Via(7))?;
+    assert_eq!(rt; fib.find(4096), Some(RouteTo::Via(7)));
+    Ok(())
+}
+
+#[test]
+fn the_laws_are_called() {
+    laws::covering_prefix_is_unique();
+    laws::best_route_is_the_longest_match();
+    laws::order_is_free();
+    laws::set_route_is_found();
+    laws::set_changes_only_covered();
+    laws::remove_changes_only_covered();
+}
+
+// 10.1.0.0/17, 10.1.2.0/24, 10.1.2.128/25 and 10.1.2.3/32.
+const HALF: Prefix = Prefix {
+    addr: 0x0a01_0000,
+    len: 17,
+};
+
+const NET: Prefix = Prefix {
+    addr: 0x0a01_0200,
+    len: 24,
+};
+
+const UPPER: Prefix = Prefix {
+    addr: 0x0a01_0280,
+    len: 25,
+};
+
+const HOST: Prefix = Prefix {
+    addr: 0x0a01_0203,
+    len: 32,
+};
+
+// Builds the trie of these routes, set in this order, and looks up an address on each level; where no prefix
+// but the default route's covers it, this is the target.
+fn build_in_order(
+    rt: &impl Abort,
+    alloc: Global,
+    order: &[(Prefix, RouteTo)],
+    default: Option<RouteTo>,
+) -> Result<(), Fail> {
+    let mut fib = Fib::new(alloc)?;
+    for (prefix, to) in order {
+        fib.set(*prefix, *to)?;
+    }
+    let trie = Mtrie::build(alloc, &fib)?;
+    assert_eq!(rt; trie.find(0x0a01_0203), Some(RouteTo::Drop));
+    assert_eq!(rt; trie.find(0x0a01_0204), Some(RouteTo::Via(1)));
+    assert_eq!(rt; trie.find(0x0a01_0280), Some(RouteTo::Via(2)));
+    assert_eq!(rt; trie.find(0x0a01_7fff), Some(RouteTo::Via(0)));
+    assert_eq!(rt; trie.find(0x0a01_8000), default);
+    assert_eq!(rt; trie.find(0xffff_ffff), default);
+    Ok(())
+}
+
+#[test]
+fn a_trie_finds_the_longest_prefix_on_each_level(rt: HostRuntime) -> Result<(), Fail> {
+    let alloc = rt.alloc();
+    let half = (HALF, RouteTo::Via(0));
+    let net = (NET, RouteTo::Via(1));
+    let upper = (UPPER, RouteTo::Via(2));
+    let one = (HOST, RouteTo::Drop);
+    let everywhere = (EVERYWHERE, RouteTo::Local);
+    let local = Some(RouteTo::Local);
+    build_in_order(&rt, alloc, &[half, net, upper, one, everywhere], local)?;
+    build_in_order(&rt, alloc, &[everywhere, one, upper, net, half], local)?;
+    build_in_order(&rt, alloc, &[half, net, upper, one], None)?;
+    build_in_order(&rt, alloc, &[one, upper, net, half], None)?;
+    Ok(())
+}
+
+// The prefix of so many bits that covers an address.
+fn prefix_of(address: u32, len: u8) -> Prefix
+    requires { len ≤ 32 }
+{
+    let host_bits = 32 - len;
+    Prefix {
+        addr: ((u64::from(address) >> host_bits) << host_bits) as u32,
+        len,
+    }
+}
+
+// Whether trie and table answer the same.
+fn agree(rt: &impl Abort, fib: &Fib, trie: &Mtrie, address: u32) {
+    assert_eq!(rt; trie.find(address), fib.find(address));
+}
+
+// Whether trie and table answer the same at the first and the last address of each prefix, and beside them.
+fn agree_at_ends(rt: &impl Abort, fib: &Fib, trie: &Mtrie) {
+    for (prefix, _) in fib.routes() {
+        let first = prefix.addr;
+        let last = first | (u64::from(u32::MAX) >> prefix.len) as u32;
+        agree(rt, fib, trie, first);
+        agree(rt, fib, trie, last);
+        agree(rt, fib, trie, first.wrapping_sub(1));
+        agree(rt, fib, trie, last.wrapping_add(1));
+    }
+}
+
+#[test]
+fn trie_and_table_agree_at_the_ends_of_each_prefix(rt: HostRuntime) -> Result<(), Fail> {
+    let alloc = rt.alloc();
+    let mut fib = Fib::new(alloc)?;
+    // In each turn the next address of a generator and the next length; every second one lies in 10.1.0.0/16.
+    let mut address: u32 = 0x0a01_0203;
+    for turn in 0..8192_u32 {
+        address = address.wrapping_mul(0x9e37_79b1).wrapping_add(0x7f4a_7c15);
+        let near = if turn % 2 == 0 {
+            address
+        } else {
+            0x0a01_0000 | (address >> 16)
+        };
+        if fib.routes().len() < MOST_ROUTES {
+            fib.set(
+                prefix_of(near, (turn % 33) as u8),
+                RouteTo::Via(turn as u16),
+            )?;
+        }
+    }
+    assert_eq!(rt; fib.routes().len(), MOST_ROUTES);
+    let trie = Mtrie::build(alloc, &fib)?;
+    agree_at_ends(&rt, &fib, &trie);
+    Ok(())
+}
+
+#[test]
+fn a_trie_follows_its_table(rt: HostRuntime) -> Result<(), Fail> {
+    let alloc = rt.alloc();
+    let mut fib = Fib::new(alloc)?;
+    fib.set(HOST, RouteTo::Drop)?;
+    fib.set(NET, RouteTo::Via(1))?;
+    let trie = Mtrie::build(alloc, &fib)?;
+    // A target changes, and prefixes come that lie under and over those that are there.
+    fib.set(NET, RouteTo::Via(5))?;
+    fib.set(HALF, RouteTo::Via(0))?;
+    fib.set(UPPER, RouteTo::Via(2))?;
+    fib.set(EVERYWHERE, RouteTo::Local)?;
+    let trie = trie.renewed(alloc, &fib)?;
+    assert_eq!(rt; trie.find(0x0a01_0203), Some(RouteTo::Drop));
+    assert_eq!(rt; trie.find(0x0a01_0204), Some(RouteTo::Via(5)));
+    assert_eq!(rt; trie.find(0x0a01_0280), Some(RouteTo::Via(2)));
+    assert_eq!(rt; trie.find(0x0a01_7fff), Some(RouteTo::Via(0)));
+    assert_eq!(rt; trie.find(0x0a01_8000), Some(RouteTo::Local));
+    assert_eq!(rt; trie.find(0xffff_ffff), Some(RouteTo::Local));
+    agree_at_ends(&rt, &fib, &trie);
+    // Prefixes go.
+    fib.remove(HOST)?;
+    fib.remove(EVERYWHERE)?;
+    let trie = trie.renewed(alloc, &fib)?;
+    assert_eq!(rt; trie.find(0x0a01_0203), Some(RouteTo::Via(5)));
+    assert_eq!(rt; trie.find(0x0a01_0280), Some(RouteTo::Via(2)));
+    assert_eq!(rt; trie.find(0x0a01_8000), None);
+    agree_at_ends(&rt, &fib, &trie);
+    Ok(())
+}
+
+#[test]
+fn a_table_is_renewed_from_another(rt: HostRuntime) -> Result<(), Fail> {
+    let alloc = rt.alloc();
+    let mut fib = Fib::new(alloc)?;
+    fib.set(TEN, RouteTo::Via(1))?;
+    fib.set(TEN_ONE, RouteTo::Via(2))?;
+    let mut other = Fib::new(alloc)?;
+    other.set(HOST, RouteTo::Drop)?;
+    let mut other = other.renewed(&fib)?;
+    assert_eq!(rt; other.routes(), fib.routes());
+    other.set(TEN, RouteTo::Local)?;
+    assert_eq!(rt; other.find(0x0a02_0001), Some(RouteTo::Local));
+    assert_eq!(rt; fib.find(0x0a02_0001), Some(RouteTo::Via(1)));
+    Ok(())
+}
+
+#[test]
+fn errors_say_what_is_wrong(rt: HostRuntime) -> Result<(), Fail> {
+    let alloc = rt.alloc();
+    let full = format!(in alloc; "{}", FibError::TooMany)?;
+    assert_eq!(rt; full.as_str(), "the table has 4096 routes");
+    let memory = format!(in alloc; "{}", FibError::Memory)?;
+    assert_eq!(rt; memory.as_str(), "memory ran out");
+    let missing = format!(in alloc; "{}", NoSuchRoute)?;
+    assert_eq!(rt; missing.as_str(), "the prefix has no route");
+    Ok(())
+}

@@ -1,0 +1,227 @@
+//! Tests of plans: the generations of a script, their limits, and its refusals.
+
+use std::alloc::Global;
+use std::process::Abort;
+use std::test::Fail;
+use vg_capture::{Capture, Captured, Packets};
+use vg_model::{Bytes, Edits, RouteTo};
+use vg_plan::*;
+use vg_script::{Block, Groups, ScriptCause, ScriptError, parse_script};
+
+/// A neighbor to which all goes.
+const EAST: &[u8] =
+    b"adjacency east interface pg0 dst 02:00:00:00:00:09\nroute 0.0.0.0/0 via east\nat 1000\nroute 0.0.0.0/0 drop\nend\n";
+
+/// A route that goes away and comes back, and another change of it at the time of the first.
+const FLAP: &[u8] =
+    b"adjacency east interface pg0 dst 02:00:00:00:00:09\nroute 10.0.0.0/8 via east\nprocess p every 100 count 3\nroute 10.0.0.0/8 drop\nthen\nroute 10.0.0.0/8 via east\nend\nat 100\nroute 10.0.0.0/8 local\nend\n";
+
+/// Two changes that are fine, and a third that would let packets go round.
+const CYCLE: &[u8] =
+    b"node a kind pass\narc a out ethernet-input\nat 10\nend\nat 20\narc pg-input out a\nend\nat 30\narc ethernet-input ip4 a\nend\n";
+
+/// An address in 10.0.0.0/8.
+const ADDRESS: u32 = 0x0a01_0203;
+
+/// The plan of a text, or its refusal.
+fn planned(alloc: Global, text: &[u8]) -> Result<Plan, ScriptError> {
+    Plan::new(alloc, parse_script(alloc, text)?)
+}
+
+/// A capture of empty packets at these times in microseconds.
+fn capture_at(rt: &impl Abort, alloc: Global, times: &[u32]) -> Result<Capture, Fail> {
+    let mut packets = Vec::new(alloc);
+    for time in times {
+        packets.push(Captured {
+            seconds: 7,
+            fraction: *time,
+            original: 0,
+            bytes: Bytes::from_vec(Vec::new(alloc)),
+        })?;
+    }
+    assert!(rt; packets.len() < 100);
+    Ok(Capture {
+        nanos: false,
+        snaplen: 262_144,
+        packets: Packets::of(alloc, packets.as_slice())?,
+    })
+}
+
+/// Whether these are the limits of the generations.
+fn has_limits(plan: &Plan, capture: &Capture, limits: &[u32]) -> bool {
+    for generation in 0..plan.generations() {
+        if limits.get(generation as usize).copied() != Some(plan.limit(generation, capture)) {
+            return false;
+        }
+    }
+    limits.len() == plan.generations() as usize
+}
+
+/// Whether these are the limits in a book.
+fn holds_limits(book: &Book, limits: &[u32]) -> bool {
+    for generation in 0..book.generations() {
+        if limits.get(generation as usize).copied() != Some(book.limit(generation)) {
+            return false;
+        }
+    }
+    limits.len() == book.generations() as usize
+}
+
+/// The limits of the generations are these, by the plan and in its book.
+fn assert_limits(
+    rt: &impl Abort,
+    alloc: Global,
+    plan: &Plan,
+    times: &[u32],
+    limits: &[u32],
+) -> Result<(), Fail> {
+    let capture = capture_at(rt, alloc, times)?;
+    assert!(rt; has_limits(plan, &capture, limits));
+    let book = plan.book(alloc, &capture).map_err(|_| "no memory")?;
+    assert!(rt; holds_limits(&book, limits));
+    Ok(())
+}
+
+/// The master of a plan.
+fn master_of(alloc: Global, plan: &Plan) -> Result<Master, Fail> {
+    Ok(Master::new(alloc, plan).map_err(|_| "no memory")?)
+}
+
+/// Where the route of an address leads after these edits.
+fn route_after(
+    alloc: Global,
+    master: &mut Master,
+    edits: &Edits,
+) -> Result<Option<RouteTo>, ScriptError> {
+    master.apply(alloc, edits)?;
+    Ok(master.fib().find(ADDRESS))
+}
+
+/// The groups of a process.
+fn groups_of<'a>(plan: &'a Plan, block: usize) -> Option<&'a Groups> {
+    match plan.script().blocks.as_slice().get(block)? {
+        Block::Process { groups, .. } => Some(groups),
+        Block::At { .. } => None,
+    }
+}
+
+/// The edits of a block at one time.
+fn edits_of<'a>(plan: &'a Plan, block: usize) -> Option<&'a Edits> {
+    match plan.script().blocks.as_slice().get(block)? {
+        Block::At { edits, .. } => Some(edits),
+        Block::Process { .. } => None,
+    }
+}
+
+#[test]
+fn a_change_comes_at_its_time(rt: HostRuntime) -> Result<(), Fail> {
+    let plan = planned(rt.alloc(), EAST)?;
+    assert_eq!(rt; plan.generations(), 2);
+    assert_eq!(rt; plan.generation_of(0), 0);
+    assert_eq!(rt; plan.generation_of(999), 0);
+    assert_eq!(rt; plan.generation_of(1000), 1);
+    assert_eq!(rt; plan.generation_of(u64::MAX), 1);
+
+    // The last packet is stamped before the change, and comes after it.
+    assert_limits(&rt, rt.alloc(), &plan, &[0, 999, 1000, 500], &[2, 4])?;
+    assert_limits(&rt, rt.alloc(), &plan, &[], &[0, 0])?;
+    Ok(())
+}
+
+#[test]
+fn events_at_one_time_come_by_line(rt: HostRuntime) -> Result<(), Fail> {
+    let plan = planned(rt.alloc(), FLAP)?;
+    assert_eq!(rt; plan.generations(), 5);
+    assert_eq!(rt; plan.generation_of(99), 0);
+    assert_eq!(rt; plan.generation_of(100), 2);
+    assert_eq!(rt; plan.generation_of(299), 3);
+    assert_eq!(rt; plan.generation_of(300), 4);
+    assert_limits(
+        &rt,
+        rt.alloc(),
+        &plan,
+        &[0, 100, 200, 300],
+        &[1, 1, 2, 3, 4],
+    )?;
+    Ok(())
+}
+
+#[test]
+fn a_route_flaps(rt: HostRuntime) -> Result<(), Fail> {
+    let plan = planned(rt.alloc(), FLAP)?;
+    let groups = groups_of(&plan, 0).ok_or("no process")?.as_slice();
+    assert_eq!(rt; groups.len(), 2);
+    let local = edits_of(&plan, 1).ok_or("no at")?;
+    let mut master = master_of(rt.alloc(), &plan)?;
+    assert_eq!(rt; master.fib().find(ADDRESS), Some(RouteTo::Via(0)));
+    assert_eq!(rt;
+        route_after(rt.alloc(), &mut master, &groups[0])?,
+        Some(RouteTo::Drop)
+    );
+    assert_eq!(rt;
+        route_after(rt.alloc(), &mut master, local)?,
+        Some(RouteTo::Local)
+    );
+    assert_eq!(rt;
+        route_after(rt.alloc(), &mut master, &groups[1])?,
+        Some(RouteTo::Via(0))
+    );
+    Ok(())
+}
+
+#[test]
+fn an_edit_of_an_event_is_refused(rt: HostRuntime) {
+    match planned(rt.alloc(), CYCLE) {
+        Ok(_) => assert!(rt; false, "planned"),
+        Err(error) => {
+            assert_eq!(rt; error.line, 9);
+            assert_eq!(rt; error.cause, ScriptCause::Cycle);
+        }
+    }
+    match planned(
+        rt.alloc(),
+        b"at 5\nunroute 10.0.0.0/8\nend\nroute 0.0.0.0/0 via x\n",
+    ) {
+        Ok(_) => assert!(rt; false, "planned"),
+        Err(error) => {
+            assert_eq!(rt; error.line, 4);
+            assert_eq!(rt; error.cause, ScriptCause::UnknownAdjacency);
+        }
+    }
+}
+
+#[test]
+fn a_refused_group_changes_nothing(rt: HostRuntime) -> Result<(), Fail> {
+    let plan = planned(rt.alloc(), b"")?;
+    assert_eq!(rt; plan.generations(), 1);
+    let edits = parse_script(
+        rt.alloc(),
+        b"node a kind pass\nroute 10.0.0.0/8 drop\nunroute 11.0.0.0/8\n",
+    )?
+    .start;
+    let mut master = master_of(rt.alloc(), &plan)?;
+    match master.apply(rt.alloc(), &edits) {
+        Ok(()) => assert!(rt; false, "made"),
+        Err(error) => {
+            assert_eq!(rt; error.line, 3);
+            assert_eq!(rt; error.cause, ScriptCause::NoRoute);
+        }
+    }
+    assert_eq!(rt; master.graph().nodes(), 9);
+    assert_eq!(rt; master.fib().routes().len(), 0);
+    Ok(())
+}
+
+#[test]
+fn generations_come_one_after_the_other(rt: HostRuntime) -> Result<(), Fail> {
+    let plan = planned(rt.alloc(), FLAP)?;
+    let generations = Generations::of(rt.alloc(), &plan).map_err(|_| "no memory")?;
+    assert_eq!(rt;
+        generations.master().fib().find(ADDRESS),
+        Some(RouteTo::Via(0))
+    );
+    assert!(rt; plan.generations() == 5);
+    let later = generations.advance().map_err(|_| "no memory")?;
+    assert_eq!(rt; later.master().fib().find(ADDRESS), Some(RouteTo::Drop));
+    Ok(())
+}

@@ -1,0 +1,257 @@
+//! Tests of the pool, its caches and the buffers.
+ghost use Rattle.std.specs.Prelude.{◌≡◌, [], ◌∷◌};
+ghost use Rattle.vg_model.specs.Packet.{fresh};
+ghost use Rattle.vg_pool.specs.Contents.{Passes, written};
+
+use std::alloc::Global;
+use std::marker::Brand;
+use std::process::Abort;
+use std::sync::Wait;
+use std::sync::ledger::{Blank, Ledger};
+use std::test::Fail;
+use vg_model::Leg;
+use vg_pool::{Buffer, Cache, LockedPool, Pool, PoolLedger, Settled};
+
+// A pool of 300 with two caches: buffers are taken, allocated and freed, one of them into the other cache, and settled. What came
+// of it.
+fn settled<T: PoolLedger, G: Ledger, R: Abort>(
+    rt: &R,
+    alloc: Global,
+    taken: Blank,
+    given: Blank,
+    loses_one: bool,
+) -> Result<Settled, Fail>
+    requires total { T.total ≡ 300 }
+    requires taken { (taken.name ≡ T.name) × (taken.parts ≡ T.parts) × (taken.parts ≡ 2) }
+    requires given { (given.name ≡ G.name) × (given.parts ≡ G.parts) × (given.parts ≡ 2) }
+{
+    let (mut pool, mut caches) = Pool::<T, G>::new(alloc, 300, 2, taken, given)?;
+    let mut second: Cache<T, G> = caches.pop().ok_or("a cache")?;
+    let mut first = caches.pop().ok_or("another cache")?;
+    assert_eq!(rt; pool.len(), 300);
+    assert_eq!(rt; pool.take(128, &mut first), 128);
+    assert_eq!(rt; pool.take(128, &mut second), 128);
+    assert_eq!(rt; pool.take(128, &mut second), 44);
+    assert_eq!(rt; pool.give(44, &mut second), 44);
+    let one = first.alloc().ok_or("a buffer")?;
+    let other = first.alloc().ok_or("another buffer")?;
+    first.free(one);
+    if loses_one {
+        drop(other);
+    } else {
+        second.free(other);
+    }
+    assert_eq!(rt; first.len(), 127);
+    caches.push(first)?;
+    caches.push(second)?;
+    pool.settle(caches);
+    let len = pool.len();
+    let settled = pool.end().ok_or("a settlement")?;
+    assert_eq!(rt; settled.len(), len);
+    Ok(settled)
+}
+
+// The same under ledgers of its own.
+fn settled_anew<R: Abort>(rt: &R, alloc: Global, loses_one: bool) -> Result<Settled, Fail> {
+    settled::<Brand, Brand, R>(rt, alloc, Blank::new(2), Blank::new(2), loses_one)
+}
+
+#[test]
+fn all_buffers_are_back_as_the_caches_are_settled(rt: HostRuntime) -> Result<(), Fail> {
+    let settled = settled_anew(&rt, rt.alloc(), false)?;
+    assert_eq!(rt; settled.len(), 300);
+    assert_eq!(rt; settled.total(), 300);
+    assert_eq!(rt; settled.allocated(), 2);
+    Ok(())
+}
+
+#[test]
+fn a_dropped_buffer_is_missing_as_the_caches_are_settled(rt: HostRuntime) -> Result<(), Fail> {
+    let settled = settled_anew(&rt, rt.alloc(), true)?;
+    assert_eq!(rt; settled.len(), 299);
+    assert_eq!(rt; settled.total(), 300);
+    Ok(())
+}
+
+// A pool of 300 with two caches behind a lock: each is filled, and both are given back.
+fn shared<T: PoolLedger, G: Ledger, R: Abort + Wait>(
+    rt: &R,
+    alloc: Global,
+    taken: Blank,
+    given: Blank,
+) -> Result<u32, Fail>
+    requires total { T.total ≡ 300 }
+    requires taken { (taken.name ≡ T.name) × (taken.parts ≡ T.parts) × (taken.parts ≡ 2) }
+    requires given { (given.name ≡ G.name) × (given.parts ≡ G.parts) × (given.parts ≡ 2) }
+{
+    let (pool, mut caches) = Pool::<T, G>::new(alloc, 300, 2, taken, given)?;
+    let pool = LockedPool::new(pool);
+    let mut second: Cache<T, G> = caches.pop().ok_or("a cache")?;
+    let mut first = caches.pop().ok_or("another cache")?;
+    assert_eq!(rt; pool.refill(rt, &mut first), 128);
+    assert_eq!(rt; pool.refill(rt, &mut first), 0);
+    assert_eq!(rt; pool.refill(rt, &mut second), 128);
+    caches.push(first)?;
+    caches.push(second)?;
+    let pool = pool.close(caches);
+    Ok(pool.len())
+}
+
+// The same under ledgers of its own.
+fn shared_anew<R: Abort + Wait>(rt: &R, alloc: Global) -> Result<u32, Fail> {
+    shared::<Brand, Brand, R>(rt, alloc, Blank::new(2), Blank::new(2))
+}
+
+#[test]
+fn caches_are_filled_from_a_shared_pool(rt: HostRuntime) -> Result<(), Fail> {
+    assert_eq!(rt; shared_anew(&rt, rt.alloc())?, 300);
+    Ok(())
+}
+
+// A pool of 600 with two caches, one of which takes 513 buffers and is relieved: of three times 128, since after two of them it
+// still has 257.
+fn relieved<T: PoolLedger, G: Ledger, R: Abort + Wait>(
+    rt: &R,
+    alloc: Global,
+    taken: Blank,
+    given: Blank,
+) -> Result<(), Fail>
+    requires total { T.total ≡ 600 }
+    requires taken { (taken.name ≡ T.name) × (taken.parts ≡ T.parts) × (taken.parts ≡ 2) }
+    requires given { (given.name ≡ G.name) × (given.parts ≡ G.parts) × (given.parts ≡ 2) }
+{
+    let (mut pool, mut caches) = Pool::<T, G>::new(alloc, 600, 2, taken, given)?;
+    let mut cache: Cache<T, G> = caches.pop().ok_or("a cache")?;
+    assert_eq!(rt; pool.take(513, &mut cache), 513);
+    let pool = LockedPool::new(pool);
+    assert_eq!(rt; pool.relieve(rt, &mut cache), 384);
+    assert_eq!(rt; cache.len(), 129);
+    assert_eq!(rt; pool.relieve(rt, &mut cache), 0);
+    caches.push(cache)?;
+    let pool = pool.close(caches);
+    assert_eq!(rt; pool.len(), 600);
+    assert!(rt; pool.end().is_some());
+    Ok(())
+}
+
+// The same under ledgers of its own.
+fn relieved_anew<R: Abort + Wait>(rt: &R, alloc: Global) -> Result<(), Fail> {
+    relieved::<Brand, Brand, R>(rt, alloc, Blank::new(2), Blank::new(2))
+}
+
+#[test]
+fn a_cache_with_too_many_buffers_is_relieved(rt: HostRuntime) -> Result<(), Fail> {
+    relieved_anew(&rt, rt.alloc())
+}
+
+// A pool that ends with its caches unsettled.
+fn unsettled<T: PoolLedger, G: Ledger>(
+    alloc: Global,
+    taken: Blank,
+    given: Blank,
+) -> Result<Option<Settled>, Fail>
+    requires total { T.total ≡ 300 }
+    requires taken { (taken.name ≡ T.name) × (taken.parts ≡ T.parts) × (taken.parts ≡ 1) }
+    requires given { (given.name ≡ G.name) × (given.parts ≡ G.parts) × (given.parts ≡ 1) }
+{
+    let (pool, _caches) = Pool::<T, G>::new(alloc, 300, 1, taken, given)?;
+    Ok(pool.end())
+}
+
+// The same under ledgers of its own.
+fn unsettled_anew(alloc: Global) -> Result<Option<Settled>, Fail> {
+    unsettled::<Brand, Brand>(alloc, Blank::new(1), Blank::new(1))
+}
+
+#[test]
+fn a_pool_that_is_not_settled_tells_nothing(rt: HostRuntime) -> Result<(), Fail> {
+    assert!(rt; unsettled_anew(rt.alloc())?.is_none());
+    Ok(())
+}
+
+// An Ethernet frame whose IPv4 header passes its checks: 20 bytes from 192.0.2.1 to 10.1.2.3, of protocol 17 and time to live 64.
+fn frame() -> [u8; 34]
+    ensures passes { Passes (fresh 7 result) }
+    ensures still_passes { Passes (written (fresh 7 result) 0 (2 ∷ 0 ∷ 0 ∷ 0 ∷ 0 ∷ 9 ∷ [])) }
+{
+    [
+        2, 0, 0, 0, 0, 0, 2, 0, 0, 0, 0, 1, 0x08, 0x00, 0x45, 0, 0, 20, 0, 0, 0, 0, 64, 17, 0xac,
+        0xd4, 192, 0, 2, 1, 10, 1, 2, 3,
+    ]
+}
+
+// A buffer of a pool.
+fn buffer<T: PoolLedger, G: Ledger, R: Abort>(
+    rt: &R,
+    alloc: Global,
+    taken: Blank,
+    given: Blank,
+) -> Result<Buffer, Fail>
+    requires total { T.total ≡ 300 }
+    requires taken { (taken.name ≡ T.name) × (taken.parts ≡ T.parts) × (taken.parts ≡ 1) }
+    requires given { (given.name ≡ G.name) × (given.parts ≡ G.parts) × (given.parts ≡ 1) }
+{
+    let (mut pool, mut caches) = Pool::<T, G>::new(alloc, 300, 1, taken, given)?;
+    let mut cache: Cache<T, G> = caches.pop().ok_or("a cache")?;
+    assert_eq!(rt; pool.take(1, &mut cache), 1);
+    Ok(cache.alloc().ok_or("a buffer")?)
+}
+
+// The same under ledgers of its own.
+fn buffer_anew<R: Abort>(rt: &R, alloc: Global) -> Result<Buffer, Fail> {
+    buffer::<Brand, Brand, R>(rt, alloc, Blank::new(1), Blank::new(1))
+}
+
+#[test]
+fn a_packet_is_put_into_a_buffer_and_changed(rt: HostRuntime) -> Result<(), Fail> {
+    let frame = frame();
+    let mut buffer = buffer_anew(&rt, rt.alloc())?;
+    buffer.fill(7, &frame);
+    assert_eq!(rt; buffer.number(), 7);
+    assert!(rt; buffer.bytes() == frame.as_slice());
+    assert!(rt; !buffer.checked());
+    assert_eq!(rt; buffer.adjacency(), None);
+    assert_eq!(rt; buffer.interface(), None);
+    assert!(rt; buffer.legs().is_empty());
+
+    buffer.mark();
+    buffer.write(0, &[2, 0, 0, 0, 0, 9]);
+    buffer.set_adjacency(3);
+    buffer.set_interface(1);
+    let leg = Leg {
+        worker: 1,
+        generation: 2,
+    };
+    buffer.add_leg(leg);
+    assert_eq!(rt; buffer.number(), 7);
+    assert!(rt; buffer.bytes()[..6] == [2, 0, 0, 0, 0, 9]);
+    assert!(rt; buffer.bytes()[6..] == frame[6..]);
+    assert!(rt; buffer.checked());
+    assert_eq!(rt; buffer.adjacency(), Some(3));
+    assert_eq!(rt; buffer.interface(), Some(1));
+    assert!(rt; buffer.legs() == [leg].as_slice());
+
+    buffer.unmark();
+    assert!(rt; !buffer.checked());
+    Ok(())
+}
+
+// A type whose values may go to another thread.
+fn crosses_threads<T: Send>() {}
+
+// A type whose values several threads may use at once.
+fn is_shared<T: Sync>() {}
+
+fn parts_cross_threads<T: PoolLedger + Send, G: Ledger + Send>() {
+    crosses_threads::<Buffer>();
+    crosses_threads::<Cache<T, G>>();
+    crosses_threads::<Pool<T, G>>();
+    crosses_threads::<LockedPool<T, G>>();
+    is_shared::<LockedPool<T, G>>();
+    crosses_threads::<Settled>();
+}
+
+#[test]
+fn buffers_caches_and_pools_cross_threads(_rt: HostRuntime) {
+    parts_cross_threads::<Brand, Brand>();
+}
