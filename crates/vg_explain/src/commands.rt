@@ -194,6 +194,43 @@ fn is_name(word: &str) -> bool {
     }
 }
 
+/// What is wrong with a word that is no option; nothing where it may be a file's name.
+fn name_fault(alloc: Global, word: &str) -> Result<Option<String>, AllocError> {
+    if is_name(word) {
+        return Ok(None);
+    }
+    Ok(Some(format!(in alloc; "`{word}` is no option and no file's name\n")?))
+}
+
+/// That a command has no option of a name.
+fn no_option(
+    alloc: Global,
+    command: &str,
+    word: &str,
+    option: &str,
+) -> Result<Option<String>, AllocError> {
+    Ok(Some(format!(in alloc; "`{word}`: {command} has no option --{option}\n")?))
+}
+
+/// What is wrong behind the last word: an option waits for its value, or the names are too few or too many.
+fn end_fault(
+    alloc: Global,
+    command: &str,
+    waiting: Option<&str>,
+    names: usize,
+    wanted: usize,
+) -> Result<Option<String>, AllocError> {
+    if let Some(option) = waiting {
+        return Ok(Some(format!(in alloc; "--{option} wants a value behind it\n")?));
+    }
+    if names != wanted {
+        return Ok(Some(format!(in alloc;
+            "{command} wants {wanted} names of files, and {names} are given\n"
+        )?));
+    }
+    Ok(None)
+}
+
 /// What is wrong with the options and the names of a command that wants so many; nothing where no word is faulty by itself.
 fn options_fault(
     alloc: Global,
@@ -213,15 +250,15 @@ fn options_fault(
             continue;
         }
         let Some(said) = option_in(word) else {
-            if !is_name(word) {
-                return Ok(Some(format!(in alloc; "`{word}` is no option and no file's name\n")?));
+            if let Some(fault) = name_fault(alloc, word)? {
+                return Ok(Some(fault));
             }
             names = names.saturating_add(1);
             continue;
         };
         let option = said.name;
         let Some(follows) = option_named(command, option) else {
-            return Ok(Some(format!(in alloc; "`{word}`: {command} has no option --{option}\n")?));
+            return no_option(alloc, command, word, option);
         };
         if used.iter().any(|one: &&str| *one == option) {
             return Ok(Some(format!(in alloc; "--{option} stands twice\n")?));
@@ -240,15 +277,13 @@ fn options_fault(
             }
         }
     }
-    if let Some((option, _)) = waiting {
-        return Ok(Some(format!(in alloc; "--{option} wants a value behind it\n")?));
-    }
-    if names != wanted {
-        return Ok(Some(format!(in alloc;
-            "{command} wants {wanted} names of files, and {names} are given\n"
-        )?));
-    }
-    Ok(None)
+    end_fault(
+        alloc,
+        command,
+        waiting.map(|(option, _)| option),
+        names,
+        wanted,
+    )
 }
 
 /// What is wrong with the numbers of a load.

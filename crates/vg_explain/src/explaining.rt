@@ -81,6 +81,64 @@ fn parted(text: &str) -> (&str, &str) {
     }
 }
 
+/// Tells what is wrong with the words, or how the program is called.
+fn explain_words<R: Eprint>(rt: &R, called: &Called<'_>) -> io::Result<()> {
+    let program = called.program;
+    match called.fault {
+        None => eprint!(rt; "{}", called.usage),
+        Some(fault) => eprintln!(rt;
+            "{program}: {}\n`{program} --help` tells all words",
+            fault.trim_end()
+        ),
+    }
+}
+
+/// Tells why the capture is refused, by the cause and the place that were printed.
+fn explain_capture<R: Files + Eprint + AllocGlobal>(
+    rt: &R,
+    called: &Called<'_>,
+    said: &str,
+) -> io::Result<()> {
+    let program = called.program;
+    let (cause, place) = parted(said);
+    let name = called.capture.unwrap_or("");
+    let head = bytes_of(rt, called.capture, HEADER as u64);
+    let sentence = capture_fault(rt.alloc(), cause, place, head.as_slice())?;
+    eprint!(rt; "{program}: the capture `{name}` is refused: {sentence}")
+}
+
+/// Tells why the script is refused, by the line and the cause that were printed.
+fn explain_script<R: Files + Eprint + AllocGlobal>(
+    rt: &R,
+    called: &Called<'_>,
+    said: &str,
+) -> io::Result<()> {
+    let program = called.program;
+    let (line, cause) = parted(said);
+    let name = called.script.unwrap_or("");
+    let script = bytes_of(rt, called.script, MOST_OF_SCRIPT);
+    let number = line.parse::<u32>().unwrap_or(0);
+    let sentence = script_fault(rt.alloc(), number, cause, script.as_slice())?;
+    eprint!(rt; "{program}: line {line} of the script `{name}` is refused: {sentence}")
+}
+
+/// Tells why the turns file is refused, by the place that was printed.
+fn explain_turns<R: Eprint>(rt: &R, program: &str, place: &str) -> io::Result<()> {
+    eprintln!(rt;
+        "{program}: byte {place} of the turns file, counted from 0, is refused: {}",
+        turns_fault()
+    )
+}
+
+/// Tells why the report is refused, by the line and the cause that were printed.
+fn explain_report<R: Eprint>(rt: &R, program: &str, said: &str) -> io::Result<()> {
+    let (line, cause) = parted(said);
+    eprintln!(rt;
+        "{program}: line {line} of the report is refused: {}",
+        report_fault(cause)
+    )
+}
+
 /// Writes to the standard error what was found and what to do, by the line that was printed where a call was refused.
 pub fn explain<R: Files + Eprint + AllocGlobal>(
     rt: &R,
@@ -92,54 +150,17 @@ pub fn explain<R: Files + Eprint + AllocGlobal>(
         return Ok(());
     };
     let (first, rest) = parted(text.trim_end());
-    let alloc = rt.alloc();
-    if first == "usage" {
-        return match called.fault {
-            None => eprint!(rt; "{}", called.usage),
-            Some(fault) => eprintln!(rt;
-                "{program}: {}\n`{program} --help` tells all words",
-                fault.trim_end()
-            ),
-        };
+    match first {
+        "usage" => explain_words(rt, called),
+        "load" => explain_load(rt, program, rest),
+        "save" => explain_save(rt, program, rest),
+        "capture" => explain_capture(rt, called, rest),
+        "script" => explain_script(rt, called, rest),
+        "turns" => explain_turns(rt, program, rest),
+        "report" => explain_report(rt, program, rest),
+        "no" => eprintln!(rt; "{program}: {}", verdict(rest)),
+        _ => Ok(()),
     }
-    if first == "load" {
-        return explain_load(rt, program, rest);
-    }
-    if first == "save" {
-        return explain_save(rt, program, rest);
-    }
-    if first == "capture" {
-        let (cause, place) = parted(rest);
-        let name = called.capture.unwrap_or("");
-        let head = bytes_of(rt, called.capture, HEADER as u64);
-        let sentence = capture_fault(alloc, cause, place, head.as_slice())?;
-        return eprint!(rt; "{program}: the capture `{name}` is refused: {sentence}");
-    }
-    if first == "script" {
-        let (line, cause) = parted(rest);
-        let name = called.script.unwrap_or("");
-        let script = bytes_of(rt, called.script, MOST_OF_SCRIPT);
-        let number = line.parse::<u32>().unwrap_or(0);
-        let sentence = script_fault(alloc, number, cause, script.as_slice())?;
-        return eprint!(rt; "{program}: line {line} of the script `{name}` is refused: {sentence}");
-    }
-    if first == "turns" {
-        return eprintln!(rt;
-            "{program}: byte {rest} of the turns file, counted from 0, is refused: {}",
-            turns_fault()
-        );
-    }
-    if first == "report" {
-        let (line, cause) = parted(rest);
-        return eprintln!(rt;
-            "{program}: line {line} of the report is refused: {}",
-            report_fault(cause)
-        );
-    }
-    if first == "no" {
-        return eprintln!(rt; "{program}: {}", verdict(rest));
-    }
-    Ok(())
 }
 
 /// Writes to the standard error why a call of `vgd` ended with a status other than 0.
