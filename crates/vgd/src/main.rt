@@ -7,6 +7,8 @@ pub mod checking;
 pub mod done;
 pub mod dues;
 #[cfg(test)]
+mod fault_tests;
+#[cfg(test)]
 mod hold_tests;
 pub mod load;
 #[cfg(test)]
