@@ -13,3 +13,4 @@ pub mod TakeLemmas
 pub mod GoLemmas
 pub mod BeginLemmas
 pub mod PassLemmas
+pub mod PartLemmas

@@ -185,10 +185,10 @@ record IsThrough (task : Task) (traced number : ℕ) (trip : Course) : Type 0 wh
   counts : (f : Journey → ℕ) → counted task f trip ≡ f j
 
 module _ (task : Task) (traced : ℕ) (u : Underway) (are : AreUnderway task traced IsNeverDue u) where
-  trip_through : (number : ℕ) (trip : Course) → number < u.stuck → slice_get u.trips.items number ≡ Some trip → IsThrough task traced number trip
+  trip_through : (number : ℕ) (trip : Course) → number < u.stuck → slice_get u.trips number ≡ Some trip → IsThrough task traced number trip
   trip_through number trip below at = by is.stands.so_far
     where
-      is : IsUnderway task traced IsNeverDue u.trips.items number
+      is : IsUnderway task traced IsNeverDue u.trips number
       is = are.way.each number below
 
       same : is.trip ≡ trip
@@ -239,12 +239,12 @@ module _ (task : Task) (traced : ℕ) (u : Underway) (are : AreUnderway task tra
 
   -- all packets are through
   module _ (lines : length task.choices ≡ length task.packets) (all : length task.packets ≤ u.stuck) where
-    long : length u.trips.items ≡ length task.packets
+    long : length u.trips ≡ length task.packets
     long = (let few = are.way.few in let stuck = are.way.stuck in omega (arith, few, stuck, all))
 
     made : (js : List Journey) × (journeys task.visit task.graphs task.workers task.packets task.choices ≡ Some js)
     made = journeys_there task.visit task.graphs task.workers 0 task.packets task.choices lines (λ k h.
-        let trip = get_some u.trips.items k (omega (arith, h, long)) in
+        let trip = get_some u.trips k (omega (arith, h, long)) in
         let done = trip_through k trip.0 (omega (arith, h, all)) trip.1 in (
           done.j,
           ap (λ n. option_and_then (λ (bs : List ℕ). option_and_then (journey task.visit task.graphs task.workers n bs) (slice_get task.choices k)) (slice_get task.packets k))
@@ -263,17 +263,17 @@ module _ (task : Task) (traced : ℕ) (u : Underway) (are : AreUnderway task tra
     many = as_many_journeys task all_js js_are
 
     -- the journey of a trip
-    journey_is_of : (k : ℕ) (trip : Course) (j : Journey) (at : slice_get u.trips.items k ≡ Some trip) → slice_get all_js k ≡ Some j
+    journey_is_of : (k : ℕ) (trip : Course) (j : Journey) (at : slice_get u.trips k ≡ Some trip) → slice_get all_js k ≡ Some j
         → (done : IsThrough task traced k trip) × (done.j ≡ j)
     journey_is_of k trip j at at_j =
-        let below = slice_get_within u.trips.items k trip at in
+        let below = slice_get_within u.trips k trip at in
         let done = trip_through k trip (omega (arith, below, long, all)) at in
         (done, same_Some done.j j (sym (journey_there task k done.bytes done.choice done.packet ∙ done.is_journey) ∙ journey_of_all task all_js js_are k j at_j))
 
-    all_counted : (f : Journey → ℕ) → sum_by (counted task f) u.trips.items ≡ sum_by f all_js
+    all_counted : (f : Journey → ℕ) → sum_by (counted task f) u.trips ≡ sum_by f all_js
     all_counted f =
-        sym (sum-map (counted task f) u.trips.items)
-        ∙ ap sum (same_maps (counted task f) f u.trips.items all_js (long ∙ sym many) (λ k trip j at at_j.
+        sym (sum-map (counted task f) u.trips)
+        ∙ ap sum (same_maps (counted task f) f u.trips all_js (long ∙ sym many) (λ k trip j at at_j.
         let is = journey_is_of k trip j at at_j in
         is.0.counts f ∙ ap f is.1))
         ∙ sum-map f all_js
@@ -289,7 +289,7 @@ module _ (task : Task) (traced : ℕ) (u : Underway) (are : AreUnderway task tra
       are_journeys = js_are;
       generations = all_by_get (λ (j : Journey). StartsAt (length task.graphs) (task.first j.number) (map (λ (leg : Leg). leg.generation) j.course.legs)) all_js (λ k j at_j.
           let below = slice_get_within all_js k j at_j in
-          let trip = get_some u.trips.items k (omega (arith, below, long, many)) in
+          let trip = get_some u.trips k (omega (arith, below, long, many)) in
           let is = journey_is_of k trip.0 j trip.1 at_j in
           let done = is.0 in
           let has : IsJourneyOf task.visit task.graphs task.workers k done.bytes done.choice done.j = journey_has task.visit task.graphs task.workers k done.bytes done.choice done.j done.is_journey in
@@ -299,20 +299,20 @@ module _ (task : Task) (traced : ℕ) (u : Underway) (are : AreUnderway task tra
           (subst (StartsAt (length task.graphs) (task.first k)) (sym gs) done.in_time)));
     }
 
-    pub all_replayed : (replay : Replayed) → replay.trips.items ≡ u.trips.items → replay.counts ≡ u.counts → slice_get task.graphs (length task.graphs - 1) ≡ Some replay.last
+    pub all_replayed : (replay : Replayed) → replay.trips ≡ u.trips → replay.counts ≡ u.counts → slice_get task.graphs (length task.graphs - 1) ≡ Some replay.last
         → AreReplayed task traced replay
     all_replayed replay trips counts last = record {
       js = all_js;
       taken = all_taken;
       possible = all_by_get AreBytes task.packets (λ k bytes at. are.way.bytes k bytes (let below = slice_get_within task.packets k bytes at in omega (arith, below, long)) at);
       trips = ap (map told) trips
-          ∙ same_maps told (λ (j : Journey). told j.course) u.trips.items all_js (long ∙ sym many) (λ k trip j at at_j.
+          ∙ same_maps told (λ (j : Journey). told j.course) u.trips all_js (long ∙ sym many) (λ k trip j at at_j.
           let is = journey_is_of k trip j at at_j in
           is.0.is_told ∙ ap (λ (j : Journey). told j.course) is.1);
       visits = ap (λ ts. map (λ (c : Course). c.visits) (take traced ts)) trips
-          ∙ same_maps (λ (c : Course). c.visits) (λ (j : Journey). j.course.visits) (take traced u.trips.items) (take traced all_js)
-          (length_take_same traced u.trips.items all_js (long ∙ sym many)) (λ k trip j at at_j.
-          let t = get_take traced u.trips.items k trip at in
+          ∙ same_maps (λ (c : Course). c.visits) (λ (j : Journey). j.course.visits) (take traced u.trips) (take traced all_js)
+          (length_take_same traced u.trips all_js (long ∙ sym many)) (λ k trip j at at_j.
+          let t = get_take traced u.trips k trip at in
           let s = get_take traced all_js k j at_j in
           let is = journey_is_of k trip j t.1 s.1 in
           is.0.visits t.0 ∙ ap (λ (j : Journey). j.course.visits) is.1);

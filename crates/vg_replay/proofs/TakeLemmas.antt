@@ -36,12 +36,12 @@ module _ (task : Task) (traced now number : ℕ) (numbers : List ℕ) (old : Und
   -- its generations are there
   pub legs_below : AllByRecursion (λ (leg : Leg). leg.generation < length old.schedule) legs
   legs_below =
-      let way : IsUnderway task traced (IsDue now (number ∷ numbers) old.schedule) old.trips.items number = are.way.each number below in
+      let way : IsUnderway task traced (IsDue now (number ∷ numbers) old.schedule) old.trips number = are.way.each number below in
       let in_time : IsInTime task number (with_legs legs accepted) = subst (IsInTime task number) (same_choice way.choice way.packet.is_choice) way.in_time in
       let size = are.way.size in
       all_below (length old.schedule) legs (λ i h e. (let less = starts_below (length task.graphs) (task.first number) (generations legs) in_time i h e in omega (arith, less, size)))
 
-  module _ (before : Course) (at : slice_get old.trips.items number ≡ Some before) (due : slice_get (generations legs) (length before.legs) ≡ Some now) where
+  module _ (before : Course) (at : slice_get old.trips number ≡ Some before) (due : slice_get (generations legs) (length before.legs) ≡ Some now) where
     -- it is due
     pub here_now : IsHere task traced now number before
     here_now = is_here task traced now number numbers old (with_legs legs accepted) before are below chosen at due
@@ -55,13 +55,13 @@ module _ (task : Task) (traced now number : ℕ) (numbers : List ℕ) (old : Und
           let few = stands_few task traced now number numbers old are below before walked trip at gone in
           let past = past_end (generations legs) (length trip.legs) none in
           let j = gone.through (omega (arith, count, few, past)) in
-          let within = slice_get_within old.trips.items number before at in
+          let within = slice_get_within old.trips number before at in
           let can : CanCount j.0.course.visits (end_of j.0.course.outcome) old.counts =
           can_count task sound traced (IsDue now (number ∷ numbers) old.schedule) old are.way short number gone.bytes gone.choice j.0 within gone.packet j.1 in
           subst (λ vs. CanCount vs (end_of walked.outcome) old.counts) (sym j.2) (subst (λ o. CanCount j.0.course.visits (end_of o) old.counts) (sym j.3) can)
 
       -- it is put back
-      pub put_back_so : (mid new : Underway) → mid.trips.items ≡ old.trips.items → mid.schedule ≡ old.schedule → mid.counts ≡ old.counts → mid.stuck ≡ old.stuck → in_hand mid.walker ≡ walked
+      pub put_back_so : (mid new : Underway) → mid.trips ≡ old.trips → mid.schedule ≡ old.schedule → mid.counts ≡ old.counts → mid.stuck ≡ old.stuck → in_hand mid.walker ≡ walked
           → Keeps (slice_get (generations legs) (length trip.legs)) number trip mid new → AreUnderway task traced (IsDue now numbers new.schedule) new
       put_back_so mid new trips schedule counts stuck hand keeps =
           let way = is task traced now number numbers old are below before walked trip at gone in
@@ -84,7 +84,7 @@ stays_behind task traced now number numbers u are behind = passed_over task trac
 
 -- its next leg is of another generation
 pub not_due_now : (task : Task) (traced now number : ℕ) (numbers : List ℕ) (u : Underway) → AreUnderway task traced (IsDue now (number ∷ numbers) u.schedule) u
-    → (legs : List Leg) (accepted : Option ℕ) → slice_get task.choices number ≡ Some (with_legs legs accepted) → (before : Course) → slice_get u.trips.items number ≡ Some before
+    → (legs : List Leg) (accepted : Option ℕ) → slice_get task.choices number ≡ Some (with_legs legs accepted) → (before : Course) → slice_get u.trips number ≡ Some before
     → (slice_get (generations legs) (length before.legs) ≡ Some now → ⊥) → AreUnderway task traced (IsDue now numbers u.schedule) u
 not_due_now task traced now number numbers u are legs accepted chosen before at apart =
     passed_over task traced now number numbers u are (λ choice trip below chooses at_trip due.

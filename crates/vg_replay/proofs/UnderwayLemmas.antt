@@ -89,7 +89,7 @@ all_due_so task traced due other u are f = record {
     size = are.way.size;
     few = are.way.few;
     stuck = are.way.stuck;
-    each = λ number below. due_so task traced due other u.trips.items number (are.way.each number below) (λ generation e d. f number generation d);
+    each = λ number below. due_so task traced due other u.trips number (are.way.each number below) (λ generation e d. f number generation d);
     numbers = are.way.numbers;
     bytes = are.way.bytes;
     legs = are.way.legs;
@@ -103,7 +103,7 @@ all_due_so task traced due other u are f = record {
 -- nothing is begun
 pub none_underway : (task : Task) (traced : ℕ) (u : Underway) → IsNew (length task.graphs) u → AreOnTheWay task traced (IsScheduled 0 u.schedule) u
 none_underway task traced u new =
-    let no_trip : length u.trips.items ≡ 0 = ap length new.trips in
+    let no_trip : length u.trips ≡ 0 = ap length new.trips in
     let size : length u.schedule ≡ length task.graphs = ap length new.schedule ∙ length-replicate (length task.graphs) [] in
     let stuck : u.stuck ≡ 0 = new.stuck in
     record {
@@ -130,19 +130,19 @@ begun_counts task f number choice at in_time =
 
 -- one packet more
 pub one_underway : (task : Task) (traced number generation : ℕ) (bytes : List ℕ) (choice : Choice) (old new : Underway) → AreOnTheWay task traced (IsScheduled 0 old.schedule) old
-    → old.stuck ≡ number → length old.trips.items ≡ number → number < length task.packets → IsPacketOf task number bytes choice → IsInTime task number choice → AreBytes bytes → length choice.generations ≤ 4
-    → slice_get choice.generations 0 ≡ Some generation → new.schedule ≡ put old.schedule generation number → new.trips.items ≡ old.trips.items ++ begun number ∷ [] → new.counts ≡ old.counts → new.stuck ≡ number + 1
+    → old.stuck ≡ number → length old.trips ≡ number → number < length task.packets → IsPacketOf task number bytes choice → IsInTime task number choice → AreBytes bytes → length choice.generations ≤ 4
+    → slice_get choice.generations 0 ≡ Some generation → new.schedule ≡ put old.schedule generation number → new.trips ≡ old.trips ++ begun number ∷ [] → new.counts ≡ old.counts → new.stuck ≡ number + 1
     → AreOnTheWay task traced (IsScheduled 0 new.schedule) new
 one_underway task traced number generation bytes choice old new are stuck count within packet in_time are_bytes few first schedule trips counts stuck_new =
     let below : generation < length old.schedule =
     (let g = starts_below (length task.graphs) (task.first number) choice.generations in_time 0 generation first in let s = are.size in omega (arith, g, s)) in
-    let long : length new.trips.items ≡ number + 1 = ap length trips ∙ length_push old.trips.items (begun number) ∙ ap (λ n. n + 1) count in
+    let long : length new.trips ≡ number + 1 = ap length trips ∙ length_push old.trips (begun number) ∙ ap (λ n. n + 1) count in
     let size : length new.schedule ≡ length old.schedule =
     ap length schedule ∙ length-set old.schedule generation (slice_index_or old.schedule generation [] ++ number ∷ []) in
-    let last : slice_get new.trips.items number ≡ Some (begun number) =
-    ap (λ ts. slice_get ts number) trips ∙ ap (slice_get (old.trips.items ++ begun number ∷ [])) (sym count) ∙ get_last old.trips.items (begun number) in
-    let before : (k : ℕ) → k < number → slice_get new.trips.items k ≡ slice_get old.trips.items k =
-    λ k h. ap (λ ts. slice_get ts k) trips ∙ get_pushed old.trips.items (begun number) k (omega (arith, h, count)) in
+    let last : slice_get new.trips number ≡ Some (begun number) =
+    ap (λ ts. slice_get ts number) trips ∙ ap (slice_get (old.trips ++ begun number ∷ [])) (sym count) ∙ get_last old.trips (begun number) in
+    let before : (k : ℕ) → k < number → slice_get new.trips k ≡ slice_get old.trips k =
+    λ k h. ap (λ ts. slice_get ts k) trips ∙ get_pushed old.trips (begun number) k (omega (arith, h, count)) in
     let stays : (h k : ℕ) → IsScheduled 0 old.schedule h k → IsScheduled 0 new.schedule h k =
     λ h k s. (s.0, subst (λ (ss : List (List ℕ)). IsIn k (slice_index_or ss h [])) (sym schedule) (in_put old.schedule generation number h k below s.1)) in
     record {
@@ -150,7 +150,7 @@ one_underway task traced number generation bytes choice old new are stuck count 
       few = omega (arith, long, within);
       stuck = omega (arith, stuck_new, long);
       each = λ k h. elim (same_or_not k number) [
-        | inl same ↦ subst (IsUnderway task traced (IsScheduled 0 new.schedule) new.trips.items) (sym same) (record {
+        | inl same ↦ subst (IsUnderway task traced (IsScheduled 0 new.schedule) new.trips) (sym same) (record {
           bytes = bytes;
           choice = choice;
           packet = packet;
@@ -168,15 +168,15 @@ one_underway task traced number generation bytes choice old new are stuck count 
         | inr other ↦
             let less : k < number = (let apart : k ≡ number → ⊥ = other in omega (arith, h, stuck_new, apart)) in
             let is = are.each k (omega (arith, less, stuck)) in
-            due_so task traced (IsScheduled 0 old.schedule) (IsScheduled 0 new.schedule) new.trips.items k
-            (trips_so task traced (IsScheduled 0 old.schedule) old.trips.items new.trips.items k (before k less) is) (λ g e d. stays g k d)
+            due_so task traced (IsScheduled 0 old.schedule) (IsScheduled 0 new.schedule) new.trips k
+            (trips_so task traced (IsScheduled 0 old.schedule) old.trips new.trips k (before k less) is) (λ g e d. stays g k d)
       ];
       numbers = λ k trip e. elim (same_or_not k number) [
         | inl same ↦
-            let is : begun number ≡ trip = same_Some (begun number) trip (sym last ∙ ap (slice_get new.trips.items) (sym same) ∙ e) in
+            let is : begun number ≡ trip = same_Some (begun number) trip (sym last ∙ ap (slice_get new.trips) (sym same) ∙ e) in
             ap (λ (t : Course). t.packet.number) (sym is) ∙ sym same
         | inr other ↦
-            let less : k < number = (let apart : k ≡ number → ⊥ = other in let h = slice_get_within new.trips.items k trip e in omega (arith, h, long, apart)) in
+            let less : k < number = (let apart : k ≡ number → ⊥ = other in let h = slice_get_within new.trips k trip e in omega (arith, h, long, apart)) in
             are.numbers k trip (sym (before k less) ∙ e)
       ];
       bytes = λ k bs h e. elim (same_or_not k number) [
@@ -187,8 +187,8 @@ one_underway task traced number generation bytes choice old new are stuck count 
         | inl same ↦ subst (λ (c : Choice). length c.generations ≤ 4) (same_Some choice c (sym packet.is_choice ∙ ap (slice_get task.choices) (sym same) ∙ e)) few
         | inr other ↦ are.legs k c (let apart : k ≡ number → ⊥ = other in omega (arith, h, long, apart, count)) e
       ];
-      counts = subst (λ ts. AreCountsOf task ts new.counts) (sym trips) (subst (AreCountsOf task (old.trips.items ++ begun number ∷ [])) (sym counts)
-          (counts_begin task old.trips.items (begun number) old.counts are.counts (λ f. begun_counts task f number choice packet.is_choice in_time)));
+      counts = subst (λ ts. AreCountsOf task ts new.counts) (sym trips) (subst (AreCountsOf task (old.trips ++ begun number ∷ [])) (sym counts)
+          (counts_begin task old.trips (begun number) old.counts are.counts (λ f. begun_counts task f number choice packet.is_choice in_time)));
     }
 
 -- a packet whose generations aren't as they should be has no journey that is taken
@@ -236,20 +236,20 @@ journey_there task number bytes choice packet =
     ∙ ap (option_and_then (journey_under task number bytes)) packet.is_choice
 
 module _ (task : Task) (sound : IsSound task) (traced : ℕ) (due : ℕ → ℕ → Type 0) (u : Underway) (way : AreOnTheWay task traced due u) (short : length task.packets ≤ 65536) where
-  all_few : (f : Journey → ℕ) → ((j : Journey) → f j ≤ length (trace j) + 1) → ((j : Journey) → length (trace j) ≤ 261 → f j ≤ 261) → sum_by (counted task f) u.trips.items ≤ 65536 * 261
+  all_few : (f : Journey → ℕ) → ((j : Journey) → f j ≤ length (trace j) + 1) → ((j : Journey) → length (trace j) ≤ 261 → f j ≤ 261) → sum_by (counted task f) u.trips ≤ 65536 * 261
   all_few f le few =
-      let each : All (λ (t : Course). counted task f t ≤ 261) u.trips.items = λ k d below.
-      let at : slice_get u.trips.items k ≡ Some (get_or u.trips.items k d) = slice_get-get_or u.trips.items k d below in
-      counted_few task f k (get_or u.trips.items k d) (way.numbers k (get_or u.trips.items k d) at) (λ j e.
+      let each : All (λ (t : Course). counted task f t ≤ 261) u.trips = λ k d below.
+      let at : slice_get u.trips k ≡ Some (get_or u.trips k d) = slice_get-get_or u.trips k d below in
+      counted_few task f k (get_or u.trips k d) (way.numbers k (get_or u.trips k d) at) (λ j e.
       let s = then_some (λ bytes. option_and_then (journey_under task k bytes) (slice_get task.choices k)) (slice_get task.packets k) j e in
       let t = then_some (journey_under task k s.0) (slice_get task.choices k) j s.2 in
       few j (trace_few task sound k s.0 t.0 j (way.bytes k s.0 below s.1) (way.legs k t.0 below t.1) t.2)) in
-      let sum = sum_by-le (counted task f) 261 u.trips.items each in
+      let sum = sum_by-le (counted task f) 261 u.trips each in
       let many = way.few in
       omega (arith, sum, many, short)
 
   -- one packet more can be counted
-  pub can_count : (number : ℕ) (bytes : List ℕ) (choice : Choice) (j : Journey) → number < length u.trips.items → IsPacketOf task number bytes choice → journey_under task number bytes choice ≡ Some j
+  pub can_count : (number : ℕ) (bytes : List ℕ) (choice : Choice) (j : Journey) → number < length u.trips → IsPacketOf task number bytes choice → journey_under task number bytes choice ≡ Some j
       → CanCount j.course.visits (end_of j.course.outcome) u.counts
   can_count number bytes choice j below packet e =
       let are : AreBytes bytes = way.bytes number bytes below packet.is_bytes in
@@ -306,7 +306,7 @@ cut_numbers numbers place number within at = drop_more numbers place number with
 module _ (task : Task) (traced now number : ℕ) (numbers : List ℕ) where
   -- a packet that isn't on its way, or isn't due, is passed over
   pub passed_over : (u : Underway) → AreUnderway task traced (IsDue now (number ∷ numbers) u.schedule) u
-      → ((choice : Choice) (trip : Course) → number < u.stuck → slice_get task.choices number ≡ Some choice → slice_get u.trips.items number ≡ Some trip → next_generation choice trip ≡ Some now → ⊥)
+      → ((choice : Choice) (trip : Course) → number < u.stuck → slice_get task.choices number ≡ Some choice → slice_get u.trips number ≡ Some trip → next_generation choice trip ≡ Some now → ⊥)
       → AreUnderway task traced (IsDue now numbers u.schedule) u
   passed_over u are apart = record {
     way = record {
@@ -315,9 +315,9 @@ module _ (task : Task) (traced now number : ℕ) (numbers : List ℕ) where
       stuck = are.way.stuck;
       each = λ k below.
           let is = are.way.each k below in
-          due_so task traced (IsDue now (number ∷ numbers) u.schedule) (IsDue now numbers u.schedule) u.trips.items k is (λ h e d.
+          due_so task traced (IsDue now (number ∷ numbers) u.schedule) (IsDue now numbers u.schedule) u.trips k is (λ h e d.
           next_due now h k number numbers u.schedule (λ same at.
-          apart is.choice is.trip (subst (λ n. n < u.stuck) same below) (ap (slice_get task.choices) (sym same) ∙ is.packet.is_choice) (ap (slice_get u.trips.items) (sym same) ∙ is.is_trip)
+          apart is.choice is.trip (subst (λ n. n < u.stuck) same below) (ap (slice_get task.choices) (sym same) ∙ is.packet.is_choice) (ap (slice_get u.trips) (sym same) ∙ is.is_trip)
           (e ∙ ap Some at)) d);
       numbers = are.way.numbers;
       bytes = are.way.bytes;
@@ -329,7 +329,7 @@ module _ (task : Task) (traced now number : ℕ) (numbers : List ℕ) where
 
   -- a packet that has no journey
   pub got_stuck : (old new : Underway) → AreUnderway task traced (IsDue now (number ∷ numbers) old.schedule) old → number < old.stuck → IsLost task number
-      → new.trips.items ≡ old.trips.items → new.schedule ≡ old.schedule → new.counts ≡ old.counts → new.stuck ≡ number → AreUnderway task traced (IsDue now numbers new.schedule) new
+      → new.trips ≡ old.trips → new.schedule ≡ old.schedule → new.counts ≡ old.counts → new.stuck ≡ number → AreUnderway task traced (IsDue now numbers new.schedule) new
   got_stuck old new are below lost trips schedule counts stuck = record {
     way = record {
       size = ap length schedule ∙ are.way.size;
@@ -338,20 +338,20 @@ module _ (task : Task) (traced now number : ℕ) (numbers : List ℕ) where
       each = λ k less.
           let is = are.way.each k (omega (arith, less, stuck, below)) in
           let apart : k ≡ number → ⊥ = λ e. omega (arith, e, less, stuck) in
-          trips_so task traced (IsDue now numbers new.schedule) old.trips.items new.trips.items k (ap (λ ts. slice_get ts k) trips)
-          (due_so task traced (IsDue now (number ∷ numbers) old.schedule) (IsDue now numbers new.schedule) old.trips.items k is (λ h e d.
+          trips_so task traced (IsDue now numbers new.schedule) old.trips new.trips k (ap (λ ts. slice_get ts k) trips)
+          (due_so task traced (IsDue now (number ∷ numbers) old.schedule) (IsDue now numbers new.schedule) old.trips k is (λ h e d.
           subst (λ ss. IsDue now numbers ss h k) (sym schedule) (next_due now h k number numbers old.schedule (λ same at. apart same) d)));
       numbers = λ k trip e. are.way.numbers k trip (ap (λ ts. slice_get ts k) (sym trips) ∙ e);
       bytes = λ k bs h e. are.way.bytes k bs (let l = ap length trips in omega (arith, h, l)) e;
       legs = λ k c h e. are.way.legs k c (let l = ap length trips in omega (arith, h, l)) e;
-      counts = subst (AreCountsOf task new.trips.items) (sym counts) (subst (λ ts. AreCountsOf task ts old.counts) (sym trips) are.way.counts);
+      counts = subst (AreCountsOf task new.trips) (sym counts) (subst (λ ts. AreCountsOf task ts old.counts) (sym trips) are.way.counts);
     };
     fault = λ h. subst (IsFault task) (sym stuck) (lost_is_fault task number lost);
   }
 
   -- what is due, of a packet that is on its way
   pub is_here : (u : Underway) (choice : Choice) (trip : Course) → AreUnderway task traced (IsDue now (number ∷ numbers) u.schedule) u → number < u.stuck
-      → slice_get task.choices number ≡ Some choice → slice_get u.trips.items number ≡ Some trip → next_generation choice trip ≡ Some now → IsHere task traced now number trip
+      → slice_get task.choices number ≡ Some choice → slice_get u.trips number ≡ Some trip → next_generation choice trip ≡ Some now → IsHere task traced now number trip
   is_here u choice trip are below at at_trip due =
       let is = are.way.each number below in
       let same_trip : is.trip ≡ trip = same_Some is.trip trip (sym is.is_trip ∙ at_trip) in
@@ -365,11 +365,11 @@ module _ (task : Task) (traced now number : ℕ) (numbers : List ℕ) where
       }
 
   module _ (old : Underway) (are : AreUnderway task traced (IsDue now (number ∷ numbers) old.schedule) old) (below : number < old.stuck) (before walked trip : Course)
-      (at : slice_get old.trips.items number ≡ Some before) (gone : IsGoneOn task traced now number before walked trip) where
-    within : number < length old.trips.items
-    within = slice_get_within old.trips.items number before at
+      (at : slice_get old.trips number ≡ Some before) (gone : IsGoneOn task traced now number before walked trip) where
+    within : number < length old.trips
+    within = slice_get_within old.trips number before at
 
-    pub is : IsUnderway task traced (IsDue now (number ∷ numbers) old.schedule) old.trips.items number
+    pub is : IsUnderway task traced (IsDue now (number ∷ numbers) old.schedule) old.trips number
     is = are.way.each number below
 
     same : is.choice ≡ gone.choice
@@ -394,39 +394,39 @@ module _ (task : Task) (traced now number : ℕ) (numbers : List ℕ) where
         omega (arith, le, apart)
 
     -- all packets, where this one has gone on
-    gone_on : (new : Underway) → (due : next_generation is.choice before ≡ Some now) → new.trips.items ≡ slice_set old.trips.items number trip → new.stuck ≡ old.stuck
+    gone_on : (new : Underway) → (due : next_generation is.choice before ≡ Some now) → new.trips ≡ slice_set old.trips number trip → new.stuck ≡ old.stuck
         → length new.schedule ≡ length old.schedule
         → ((h k : ℕ) → IsIn k (slice_index_or old.schedule h []) → IsIn k (slice_index_or new.schedule h []))
         → ((h : ℕ) → next_generation gone.choice trip ≡ Some h → IsIn number (slice_index_or new.schedule h []))
-        → AreCountsOf task new.trips.items new.counts → AreUnderway task traced (IsDue now numbers new.schedule) new
+        → AreCountsOf task new.trips new.counts → AreUnderway task traced (IsDue now numbers new.schedule) new
     gone_on new due trips stuck size stays put_there counts = record {
       way = record {
         size = size ∙ are.way.size;
         few = (let e = long in let few = are.way.few in omega (arith, e, few));
         stuck = (let e = long in let h = are.way.stuck in omega (arith, e, h, stuck));
         each = λ k less. elim (same_or_not k number) [
-          | inl same_number ↦ subst (IsUnderway task traced (IsDue now numbers new.schedule) new.trips.items) (sym same_number) (record {
+          | inl same_number ↦ subst (IsUnderway task traced (IsDue now numbers new.schedule) new.trips) (sym same_number) (record {
             bytes = gone.bytes;
             choice = gone.choice;
             packet = gone.packet;
             trip = trip;
-            is_trip = ap (λ ts. slice_get ts number) trips ∙ get_set_same old.trips.items number trip within;
+            is_trip = ap (λ ts. slice_get ts number) trips ∙ get_set_same old.trips number trip within;
             in_time = in_time;
             stands = gone.stands;
             is_due = λ h e. inr (rises h due e, put_there h e);
           })
           | inr other ↦
-              let others : slice_get new.trips.items k ≡ slice_get old.trips.items k = ap (λ ts. slice_get ts k) trips ∙ get_set_other old.trips.items number k trip other in
+              let others : slice_get new.trips k ≡ slice_get old.trips k = ap (λ ts. slice_get ts k) trips ∙ get_set_other old.trips number k trip other in
               let was = are.way.each k (omega (arith, less, stuck)) in
-              trips_so task traced (IsDue now numbers new.schedule) old.trips.items new.trips.items k others
-              (due_so task traced (IsDue now (number ∷ numbers) old.schedule) (IsDue now numbers new.schedule) old.trips.items k was (λ h e d.
+              trips_so task traced (IsDue now numbers new.schedule) old.trips new.trips k others
+              (due_so task traced (IsDue now (number ∷ numbers) old.schedule) (IsDue now numbers new.schedule) old.trips k was (λ h e d.
               scheduled h k (next_due now h k number numbers old.schedule (λ s n. other s) d)))
         ];
         numbers = λ k t e. elim (same_or_not k number) [
           | inl same_number ↦
-              let is_trip : trip ≡ t = same_Some trip t (sym (get_set_same old.trips.items number trip within) ∙ ap (λ ts. slice_get ts number) (sym trips) ∙ ap (slice_get new.trips.items) (sym same_number) ∙ e) in
+              let is_trip : trip ≡ t = same_Some trip t (sym (get_set_same old.trips number trip within) ∙ ap (λ ts. slice_get ts number) (sym trips) ∙ ap (slice_get new.trips) (sym same_number) ∙ e) in
               ap (λ (t : Course). t.packet.number) (sym is_trip) ∙ gone.stands.number_is ∙ sym same_number
-          | inr other ↦ are.way.numbers k t (sym (ap (λ ts. slice_get ts k) trips ∙ get_set_other old.trips.items number k trip other) ∙ e)
+          | inr other ↦ are.way.numbers k t (sym (ap (λ ts. slice_get ts k) trips ∙ get_set_other old.trips number k trip other) ∙ e)
         ];
         bytes = λ k bs h e. are.way.bytes k bs (let l = long in omega (arith, h, l)) e;
         legs = λ k c h e. are.way.legs k c (let l = long in omega (arith, h, l)) e;
@@ -435,8 +435,8 @@ module _ (task : Task) (traced now number : ℕ) (numbers : List ℕ) where
       fault = λ h. subst (IsFault task) (sym stuck) (are.fault (omega (arith, h, stuck)));
     }
       where
-        long : length new.trips.items ≡ length old.trips.items
-        long = ap length trips ∙ length-set old.trips.items number trip
+        long : length new.trips ≡ length old.trips
+        long = ap length trips ∙ length-set old.trips number trip
 
         scheduled : (h k : ℕ) → IsDue now numbers old.schedule h k → IsDue now numbers new.schedule h k
         scheduled h k (inl d) = inl d
@@ -455,11 +455,11 @@ module _ (task : Task) (traced now number : ℕ) (numbers : List ℕ) where
             omega (arith, count, cut)
 
     -- it is put back
-    pub put_back : (mid new : Underway) → next_generation is.choice before ≡ Some now → mid.trips.items ≡ old.trips.items → mid.schedule ≡ old.schedule → mid.counts ≡ old.counts → mid.stuck ≡ old.stuck
+    pub put_back : (mid new : Underway) → next_generation is.choice before ≡ Some now → mid.trips ≡ old.trips → mid.schedule ≡ old.schedule → mid.counts ≡ old.counts → mid.stuck ≡ old.stuck
         → in_hand mid.walker ≡ walked → Keeps (next_generation gone.choice trip) number trip mid new → AreUnderway task traced (IsDue now numbers new.schedule) new
     put_back mid new due trips schedule counts stuck hand keeps = by (next_generation gone.choice trip) refl keeps.put
       where
-        made : new.trips.items ≡ slice_set old.trips.items number trip
+        made : new.trips ≡ slice_set old.trips number trip
         made = keeps.trips ∙ ap (λ ts. slice_set ts number trip) trips
 
         by : (o : Option ℕ) → next_generation gone.choice trip ≡ o → IsPutBack o number (in_hand mid.walker).visits (in_hand mid.walker) mid new → AreUnderway task traced (IsDue now numbers new.schedule) new
@@ -471,8 +471,8 @@ module _ (task : Task) (traced now number : ℕ) (numbers : List ℕ) where
             (λ g k i. subst (λ (ss : List (List ℕ)). IsIn k (slice_index_or ss g [])) (sym scheduled) (in_put old.schedule h number g k below i))
             (λ g f. subst (λ n. IsIn number (slice_index_or new.schedule n [])) (same_Some h g (sym e ∙ f))
             (subst (λ (ss : List (List ℕ)). IsIn number (slice_index_or ss h [])) (sym scheduled) (put_is_in old.schedule h number below)))
-            (subst (λ ts. AreCountsOf task ts new.counts) (sym made) (subst (AreCountsOf task (slice_set old.trips.items number trip)) (sym (put_is.0 ∙ counts))
-            (counts_wait task old.trips.items old.counts number before trip are.way.counts at (λ f. before_counts f stands_few)
+            (subst (λ ts. AreCountsOf task ts new.counts) (sym made) (subst (AreCountsOf task (slice_set old.trips number trip)) (sym (put_is.0 ∙ counts))
+            (counts_wait task old.trips old.counts number before trip are.way.counts at (λ f. before_counts f stands_few)
             (λ f. not_through task f number gone.choice trip gone.stands.number_is gone.packet.is_choice (λ k. omega (arith, k, less))))))
         by None e put_is =
             let whole : length trip.legs ≡ length gone.choice.generations = through_all e in
@@ -490,7 +490,7 @@ module _ (task : Task) (traced now number : ℕ) (numbers : List ℕ) where
             (λ g k i. subst (λ (ss : List (List ℕ)). IsIn k (slice_index_or ss g [])) (sym same_schedule) i)
             (λ g f. absurd (none-some g (sym e ∙ f)))
             (subst (λ ts. AreCountsOf task ts new.counts) (sym made)
-            (counts_add task old.trips.items old.counts new.counts number before trip j.0 are.way.counts at (λ f. before_counts f stands_few)
+            (counts_add task old.trips old.counts new.counts number before trip j.0 are.way.counts at (λ f. before_counts f stands_few)
             (λ f. through task f number gone.choice trip j.0 gone.stands.number_is gone.packet.is_choice whole there) adds))
           where
             through_all : next_generation gone.choice trip ≡ None → length trip.legs ≡ length gone.choice.generations
@@ -499,34 +499,6 @@ module _ (task : Task) (traced now number : ℕ) (numbers : List ℕ) where
                 λ less. none-some _ (sym e ∙ slice_get-get_or gone.choice.generations (length trip.legs) 0 less) in
                 let few = stands_few in
                 omega (arith, past, few)
-
--- ---- how far a packet has come is kept
-
-keeps_so : (o other : Option ℕ) (number : ℕ) (trip : Course) (old new : Underway) → o ≡ other → Keeps other number trip old new → Keeps o number trip old new
-keeps_so o other number trip old new e k = subst (λ p. Keeps p number trip old new) (sym e) k
-
-pub keeps_put : (legs : List Leg) (number : ℕ) (trip : Course) (old mid new : Underway) (generation : ℕ) → slice_get (map (λ (leg : Leg). leg.generation) legs) (length trip.legs) ≡ Some generation
-    → mid.trips ≡ old.trips → mid.counts ≡ old.counts → mid.stuck ≡ old.stuck → mid.schedule ≡ slice_set old.schedule generation (slice_index_or old.schedule generation [] ++ number ∷ [])
-    → new.trips.items ≡ slice_set mid.trips.items number trip → new.counts ≡ mid.counts → new.schedule ≡ mid.schedule → new.stuck ≡ mid.stuck
-    → Keeps (slice_get (map (λ (leg : Leg). leg.generation) legs) (length trip.legs)) number trip old new
-keeps_put legs number trip old mid new generation due trips counts stuck schedule new_trips new_counts new_schedule new_stuck =
-    keeps_so _ (Some generation) number trip old new due (record {
-      trips = new_trips ∙ ap (λ v. slice_set v.items number trip) trips;
-      stuck = new_stuck ∙ stuck;
-      put = (new_counts ∙ counts, new_schedule ∙ schedule);
-    })
-
-pub keeps_counted : (legs : List Leg) (number : ℕ) (trip : Course) (old mid new : Underway) → slice_get (map (λ (leg : Leg). leg.generation) legs) (length trip.legs) ≡ None
-    → mid.trips ≡ old.trips → mid.schedule ≡ old.schedule → mid.stuck ≡ old.stuck
-    → Adds ((in_hand old.walker).visits ++ drop_visit (end_of (in_hand old.walker).outcome)) (end_of (in_hand old.walker).outcome) old.counts mid.counts
-    → new.trips.items ≡ slice_set mid.trips.items number trip → new.counts ≡ mid.counts → new.schedule ≡ mid.schedule → new.stuck ≡ mid.stuck
-    → Keeps (slice_get (map (λ (leg : Leg). leg.generation) legs) (length trip.legs)) number trip old new
-keeps_counted legs number trip old mid new due trips schedule stuck adds new_trips new_counts new_schedule new_stuck =
-    keeps_so _ None number trip old new due (record {
-      trips = new_trips ∙ ap (λ v. slice_set v.items number trip) trips;
-      stuck = new_stuck ∙ stuck;
-      put = (new_schedule ∙ schedule, subst (λ t. Adds ((in_hand old.walker).visits ++ drop_visit (end_of (in_hand old.walker).outcome)) (end_of (in_hand old.walker).outcome) old.counts t) (sym new_counts) adds);
-    })
 
 -- ---- all packets of a generation
 
@@ -541,19 +513,19 @@ none_left task traced now u numbers none are = all_due_so task traced (IsDue now
 
 -- those that are taken out of the schedule are due now
 pub taken_out : (task : Task) (traced now : ℕ) (old new : Underway) (numbers : List ℕ) → AreUnderway task traced (IsScheduled now old.schedule) old → numbers ≡ slice_index_or old.schedule now []
-    → new.schedule ≡ slice_set old.schedule now [] → new.trips.items ≡ old.trips.items → new.counts ≡ old.counts → new.stuck ≡ old.stuck → AreUnderway task traced (IsDue now numbers new.schedule) new
+    → new.schedule ≡ slice_set old.schedule now [] → new.trips ≡ old.trips → new.counts ≡ old.counts → new.stuck ≡ old.stuck → AreUnderway task traced (IsDue now numbers new.schedule) new
 taken_out task traced now old new numbers are is schedule trips counts stuck = record {
   way = record {
     size = ap length schedule ∙ length-set old.schedule now [] ∙ are.way.size;
     few = (let e = ap length trips in let h = are.way.few in omega (arith, e, h));
     stuck = (let e = ap length trips in let h = are.way.stuck in omega (arith, e, h, stuck));
     each = λ k less.
-        trips_so task traced (IsDue now numbers new.schedule) old.trips.items new.trips.items k (ap (λ ts. slice_get ts k) trips)
-        (due_so task traced (IsScheduled now old.schedule) (IsDue now numbers new.schedule) old.trips.items k (are.way.each k (omega (arith, less, stuck))) (λ h e d. by h k d (same_or_not h now)));
+        trips_so task traced (IsDue now numbers new.schedule) old.trips new.trips k (ap (λ ts. slice_get ts k) trips)
+        (due_so task traced (IsScheduled now old.schedule) (IsDue now numbers new.schedule) old.trips k (are.way.each k (omega (arith, less, stuck))) (λ h e d. by h k d (same_or_not h now)));
     numbers = λ k t e. are.way.numbers k t (ap (λ ts. slice_get ts k) (sym trips) ∙ e);
     bytes = λ k bs h e. are.way.bytes k bs (let l = ap length trips in omega (arith, h, l)) e;
     legs = λ k c h e. are.way.legs k c (let l = ap length trips in omega (arith, h, l)) e;
-    counts = subst (AreCountsOf task new.trips.items) (sym counts) (subst (λ ts. AreCountsOf task ts old.counts) (sym trips) are.way.counts);
+    counts = subst (AreCountsOf task new.trips) (sym counts) (subst (λ ts. AreCountsOf task ts old.counts) (sym trips) are.way.counts);
   };
   fault = λ h. subst (IsFault task) (sym stuck) (are.fault (omega (arith, h, stuck)));
 }
@@ -573,7 +545,7 @@ never_due task traced least u past are = record {
     stuck = are.way.stuck;
     each = λ k below.
         let is = are.way.each k below in
-        due_so task traced (IsScheduled least u.schedule) IsNeverDue u.trips.items k is (λ h e d.
+        due_so task traced (IsScheduled least u.schedule) IsNeverDue u.trips k is (λ h e d.
         let there = starts_below (length task.graphs) (task.first k) is.choice.generations is.in_time (length is.trip.legs) h e in
         let le = d.0 in
         omega (arith, there, le, past));

@@ -1,6 +1,7 @@
 pub mod Legs
 pub mod Courses
 pub mod Tasks
+pub mod Parts
 pub mod View
 pub mod Trips
 pub mod Counts

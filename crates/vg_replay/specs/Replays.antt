@@ -50,8 +50,8 @@ pub record AreReplayed (task : Task) (traced : ℕ) (replay : Replayed) : Type 0
   pub js : List Journey
   pub taken : AreTaken task js
   pub possible : AllByRecursion AreBytes task.packets
-  pub trips : map told replay.trips.items ≡ map (λ (j : Journey). told j.course) js
-  pub visits : map (λ (c : Course). c.visits) (take traced replay.trips.items) ≡ map (λ (j : Journey). j.course.visits) (take traced js)
+  pub trips : map told replay.trips ≡ map (λ (j : Journey). told j.course) js
+  pub visits : map (λ (c : Course). c.visits) (take traced replay.trips) ≡ map (λ (j : Journey). j.course.visits) (take traced js)
   pub counts : AreCounts js replay.counts
   pub nodes : length replay.counts.visits ≡ most_nodes
   pub interfaces : length replay.counts.sends ≡ most_interfaces

@@ -38,20 +38,20 @@ IsNeverDue generation number = ⊥
 -- nothing is begun
 pub record IsNew (generations : ℕ) (u : Underway) : Type 0 where
   pub schedule : u.schedule ≡ replicate generations []
-  pub trips : u.trips.items ≡ []
+  pub trips : u.trips ≡ []
   pub counts : u.counts ≡ nothing_counted most_nodes most_interfaces
   pub stuck : u.stuck ≡ 0
 
 -- the packets below a number are on their way; what is counted is that of the packets that are through
 pub record AreOnTheWay (task : Task) (traced : ℕ) (due : ℕ → ℕ → Type 0) (u : Underway) : Type 0 where
   pub size : length u.schedule ≡ length task.graphs
-  pub few : length u.trips.items ≤ length task.packets
-  pub stuck : u.stuck ≤ length u.trips.items
-  pub each : (number : ℕ) → number < u.stuck → IsUnderway task traced due u.trips.items number
-  pub numbers : (number : ℕ) (trip : Course) → slice_get u.trips.items number ≡ Some trip → trip.packet.number ≡ number
-  pub bytes : (number : ℕ) (bytes : List ℕ) → number < length u.trips.items → slice_get task.packets number ≡ Some bytes → AreBytes bytes
-  pub legs : (number : ℕ) (choice : Choice) → number < length u.trips.items → slice_get task.choices number ≡ Some choice → length choice.generations ≤ 4
-  pub counts : AreCountsOf task u.trips.items u.counts
+  pub few : length u.trips ≤ length task.packets
+  pub stuck : u.stuck ≤ length u.trips
+  pub each : (number : ℕ) → number < u.stuck → IsUnderway task traced due u.trips number
+  pub numbers : (number : ℕ) (trip : Course) → slice_get u.trips number ≡ Some trip → trip.packet.number ≡ number
+  pub bytes : (number : ℕ) (bytes : List ℕ) → number < length u.trips → slice_get task.packets number ≡ Some bytes → AreBytes bytes
+  pub legs : (number : ℕ) (choice : Choice) → number < length u.trips → slice_get task.choices number ≡ Some choice → length choice.generations ≤ 4
+  pub counts : AreCountsOf task u.trips u.counts
 
 -- and the packet with this number has no journey, if it is there
 pub record AreUnderway (task : Task) (traced : ℕ) (due : ℕ → ℕ → Type 0) (u : Underway) : Type 0 where
@@ -66,6 +66,6 @@ IsPutBack None number visits walked old new =
     (new.schedule ≡ old.schedule) × Adds (visits ++ drop_visit (end_of walked.outcome)) (end_of walked.outcome) old.counts new.counts
 
 pub record Keeps (generation : Option ℕ) (number : ℕ) (trip : Course) (old new : Underway) : Type 0 where
-  pub trips : new.trips.items ≡ slice_set old.trips.items number trip
+  pub trips : new.trips ≡ slice_set old.trips number trip
   pub stuck : new.stuck ≡ old.stuck
   pub put : IsPutBack generation number (in_hand old.walker).visits (in_hand old.walker) old new

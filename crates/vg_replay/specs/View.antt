@@ -8,13 +8,14 @@ use Rattle.vg_replay.specs.declared.trips.Trip.TheInside.{Inside}
 -- the part of a journey that is done
 abbrev pub course_of : Inside → Course
 course_of t = record {
-  legs = t.legs;
+  legs = t.legs.now;
   outcome = outcome_of t.outcome;
-  packet = record { number = t.number; bytes = t.bytes.items; checked = t.checked; adjacency = t.adjacency; interface = t.interface };
-  visits = t.visits.items;
+  packet = record { number = t.number; bytes = t.bytes.now; checked = t.checked; adjacency = t.adjacency; interface = t.interface };
+  visits = t.visits.now;
 }
 
--- what holds of the parts: the packet may be, and fits a buffer
+-- what holds of the parts: there are few legs, the packet may be, and it fits a buffer
 pub record IsTrip (t : Inside) : Type 0 where
+  pub few : length t.legs.now ≤ 4
   pub possible : IsPacket (course_of t).packet
-  pub short : length t.bytes.items ≤ 2048
+  pub short : length t.bytes.now ≤ 2048

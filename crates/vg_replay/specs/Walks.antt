@@ -2,7 +2,7 @@
 use Rattle.std.specs.Prelude.{◌≡◌, ℕ, ◌+◌, ◌<◌, Bool, true, false, List, length, take, Option, Some, None}
 use Rattle.vg_model.specs.Journey.{Journey, Choice, Course}
 use Rattle.vg_replay.specs.Tasks.{Task, IsPacketOf, journey_under}
-use Rattle.vg_replay.specs.Trips.{IsSoFar, StandsAt, next_generation}
+use Rattle.vg_replay.specs.Trips.{IsKeptOf, IsSoFar, StandsAt, next_generation}
 
 -- a packet has come so far, and its next leg is of this generation
 pub record IsHere (task : Task) (traced generation number : ℕ) (trip : Course) : Type 0 where
@@ -42,7 +42,8 @@ pub record IsGoneOn (task : Task) (traced generation number : ℕ) (before walke
   pub through : length trip.legs ≡ length choice.generations
       → (j : Journey) × (journey_under task number bytes choice ≡ Some j) × (walked.visits ≡ j.course.visits) × (walked.outcome ≡ j.course.outcome)
 
--- it has, or its choice fits no journey
-abbrev pub MayGo : Task → (traced generation number : ℕ) → (before walked : Course) → Option Course → Type 0
-MayGo task traced generation number before walked (Some trip) = IsGoneOn task traced generation number before walked trip
+-- it has, whatever is kept of it with the nodes that it visited or without; or its choice fits no journey
+abbrev pub MayGo : Task → (traced generation number : ℕ) → (before walked : Course) → Option Bool → Type 0
+MayGo task traced generation number before walked (Some with_visits) =
+    (trip : Course) → IsKeptOf with_visits number walked trip → IsGoneOn task traced generation number before walked trip
 MayGo task traced generation number before walked None = IsLost task number

@@ -20,4 +20,4 @@ mod walkers;
 pub use inputs::Input;
 pub use legs::Outcome;
 pub use replaying::{ReplayError, Replayed, replay};
-pub use trips::{Trip, copied};
+pub use trips::{Trip, Trips, copied};

@@ -4,7 +4,7 @@ ghost use Rattle.vg_replay.specs.Replays.{task_of, IsInput, AreReplayed, IsRefus
 ghost use Rattle.vg_replay.specs.Underway.{IsScheduled, IsNeverDue, AreUnderway};
 
 use crate::inputs::Input;
-use crate::trips::Trip;
+use crate::trips::Trips;
 use crate::underway::Underway;
 use std::alloc::Global;
 use vg_counters::Counters;
@@ -17,7 +17,7 @@ use vg_plan::{Generations, Master};
 #[derive(Drop)]
 pub struct Replayed {
     /// How each packet went, by number.
-    pub trips: Vec<Trip>,
+    pub trips: Trips,
     /// The visits of nodes, their drops, and the transmits of interfaces.
     pub counts: Counters,
     /// The graph of the last generation.
@@ -71,7 +71,7 @@ fn pass<K: KindSet>(
         return Ok(fork);
     }
     let fork = fork_of(alloc, fork, master, generation)?;
-    match underway.take_all(alloc, input, kinds, &fork, numbers.as_slice()) {
+    match underway.take_all(input, kinds, &fork, numbers.as_slice()) {
         Ok(()) => Ok(Some(fork)),
         Err(_) => Err(Memory),
     }
@@ -118,7 +118,7 @@ fn go_through<K: KindSet>(
 {
     let book = input.plan.book(alloc, input.capture)?;
     let mut underway = Underway::new(alloc, input.plan.generations())?;
-    let Ok(()) = underway.begin(alloc, input, &book) else {
+    let Ok(()) = underway.begin(input, &book) else {
         return Err(Memory);
     };
     let last = pass_all(alloc, input, kinds, &mut underway)?;

@@ -1,108 +1,240 @@
 //! How far packets have come.
-ghost use Rattle.std.specs.Prelude.{◌≡◌, ◌≤◌, length, IfOk};
+ghost use Rattle.std.specs.Prelude.{◌≡◌, ◌+◌, ◌<◌, ◌≤◌, ◌++◌, [], ◌∷◌, ℕ, length, slice_get, slice_set, if◌then◌else◌, IfOk, OnOk, OnErr};
+ghost use Rattle.vg_model.specs.Journey.{Course};
 ghost use Rattle.vg_replay.specs.Courses.{in_hand};
 ghost use Rattle.vg_replay.specs.Legs.{outcome_of};
+ghost use Rattle.vg_replay.specs.Parts.{part_of, course_in, whole, IsTripIn, HasGrown};
 ghost use Rattle.vg_replay.specs.Trips.{begun, IsKeptOf};
 
-use crate::legs::Outcome;
+use crate::legs::{Outcome, know_possible};
 use crate::walkers::Walker;
 use std::alloc::{AllocError, Global};
 use std::marker::Model;
 use vg_model::{Leg, Legs};
 use vg_pool::Buffer;
 
-/// How far a packet has come: the legs that it has done, how the last of them ended, and what it is then.
-///
-/// It is seen as that part of a journey. Of a packet that was dropped no more than the number is kept. The nodes that it visited are
-/// kept where more legs are to come, and where they are asked for.
-#[derive(Drop)]
-pub struct Trip {
+/// Where a part of a list stands.
+#[derive(Clone, Copy)]
+pub(crate) struct Part {
+    at: u32,
+    len: u32,
+}
+
+/// The part that has nothing.
+const NOTHING: Part = Part { at: 0, len: 0 };
+
+// A part of a list.
+fn part_at<T>(list: &[T], place: Part) -> &[T]
+    requires { place.at + place.len ≤ length list.now }
+    ensures { result.now ≡ part_of place list.now }
+{
+    let start = place.at as usize;
+    &list[start..start + place.len as usize]
+}
+
+// Adds elements behind a list, or none, and tells where they stand.
+fn append<T: Copy>(list: &mut Vec<T>, more: &[T], is_wanted: bool) -> Result<Part, AllocError>
+    ensures place { IfOk result (λ place. (place.at ≡ length list.old.items) × (place.len ≡ length (if is_wanted then more.now else []))) }
+    ensures ok { OnOk result (list.new.items ≡ list.old.items ++ (if is_wanted then more.now else [])) }
+    ensures err { OnErr result (list.new.items ≡ list.old.items) }
+{
+    let more = if is_wanted { more } else { &more[..0] };
+    let Ok(at) = u32::try_from(list.len()) else {
+        return Err(AllocError);
+    };
+    let Ok(len) = u32::try_from(more.len()) else {
+        return Err(AllocError);
+    };
+    list.extend_from_slice(more)?;
+    Ok(Part { at, len })
+}
+
+/// What is kept of a packet, by places in the lists of all.
+#[derive(Clone, Copy)]
+pub(crate) struct Kept {
     number: u32,
-    legs: Legs,
+    legs: Part,
     outcome: Outcome,
-    bytes: Vec<u8>,
+    bytes: Part,
     checked: bool,
     adjacency: Option<u16>,
     interface: Option<u16>,
+    visits: Part,
+}
+
+/// The legs, the bytes and the nodes visited that are kept of all packets.
+#[derive(Drop)]
+pub(crate) struct Lists {
+    legs: Vec<Leg>,
+    bytes: Vec<u8>,
     visits: Vec<u16>,
 }
 
-impl Model for Trip {
+// Whether more is kept of a packet that ended its leg so than that it was dropped.
+fn is_whole(outcome: Outcome) -> bool
+    ensures { result ≡ whole (outcome_of outcome) }
+{
+    match outcome {
+        Outcome::Sent { .. } | Outcome::Handed { .. } => true,
+        Outcome::Dropped { .. } => false,
+    }
+}
+
+impl Lists {
+    // Notes how far a packet that is walked has come, with the nodes that it visited or without.
+    fn note(&mut self, number: u32, walker: &Walker, with_visits: bool) -> Result<Kept, AllocError>
+        ensures grown { HasGrown self.old self.new }
+        ensures kept { IfOk result (λ kept. IsKeptOf with_visits number (in_hand walker.now) (course_in self.new kept)) }
+        ensures trip { IfOk result (IsTripIn self.new) }
+    {
+        let buffer = &walker.buffer;
+        know_possible(buffer);
+        let is_whole = is_whole(walker.outcome);
+        let legs = append(&mut self.legs, walker.legs.as_slice(), true)?;
+        let bytes = append(&mut self.bytes, buffer.bytes(), is_whole)?;
+        let visits = append(&mut self.visits, walker.visits.as_slice(), with_visits)?;
+        Ok(Kept {
+            number,
+            legs,
+            outcome: walker.outcome,
+            bytes,
+            checked: is_whole && buffer.checked(),
+            adjacency: buffer.adjacency(),
+            interface: buffer.interface(),
+            visits,
+        })
+    }
+}
+
+/// How far packets have come, by number. They are seen as the list of that.
+///
+/// Of a packet that was dropped no more than the number is kept. The nodes that it visited are kept where more legs are to come, and
+/// where they are asked for.
+#[derive(Drop)]
+pub struct Trips {
+    kept: Vec<Kept>,
+    lists: Lists,
+}
+
+impl Model for Trips {
+    ghost use Rattle.std.specs.Prelude.{List, map, All};
     ghost use Rattle.vg_model.specs.Journey.{Course};
+    ghost use Rattle.vg_replay.specs.Parts.{course_in, IsTripIn};
+
+    ghost Value = { List Course };
+
+    ghost view = { λ t. map (course_in t.lists) t.kept.items };
+
+    ghost invariant = { λ t. All (IsTripIn t.lists) t.kept.items };
+}
+
+impl Trips {
+    // No packet yet.
+    pub(crate) fn new(alloc: Global) -> Trips
+        ensures { result ≡ [] }
+    {
+        let lists = Lists {
+            legs: Vec::new(alloc),
+            bytes: Vec::new(alloc),
+            visits: Vec::new(alloc),
+        };
+        Trips {
+            kept: Vec::new(alloc),
+            lists,
+        }
+    }
+
+    /// How many packets there are.
+    pub fn len(&self) -> usize
+        ensures { result ≡ length self.now }
+    {
+        self.kept.len()
+    }
+
+    /// How far a packet has come.
+    pub fn get(&self, number: usize) -> Trip<'_>
+        requires { number < length self.now }
+        ensures { slice_get self.now number ≡ Some result }
+    {
+        let kept = self.kept[number];
+        Trip {
+            number: kept.number,
+            legs: part_at(self.lists.legs.as_slice(), kept.legs),
+            outcome: kept.outcome,
+            bytes: part_at(self.lists.bytes.as_slice(), kept.bytes),
+            checked: kept.checked,
+            adjacency: kept.adjacency,
+            interface: kept.interface,
+            visits: part_at(self.lists.visits.as_slice(), kept.visits),
+        }
+    }
+
+    // Adds a packet that has done no leg.
+    pub(crate) fn begin(&mut self, number: u32) -> Result<(), AllocError>
+        ensures { OnOk result (self.new ≡ self.old ++ begun number ∷ []) }
+    {
+        self.kept.push(Kept {
+            number,
+            legs: NOTHING,
+            outcome: Outcome::Sent { interface: 0 },
+            bytes: NOTHING,
+            checked: false,
+            adjacency: None,
+            interface: None,
+            visits: NOTHING,
+        })?;
+        Ok(())
+    }
+
+    // Keeps how far the packet that is walked has come, with the nodes that it visited or without.
+    pub(crate) fn keep(
+        &mut self,
+        number: u32,
+        walker: &Walker,
+        with_visits: bool,
+    ) -> Result<(), AllocError>
+        requires { number < length self.old }
+        ensures { OnOk result ((trip : Course) × IsKeptOf with_visits number (in_hand walker.now) trip × (self.new ≡ slice_set self.old number trip)) }
+    {
+        let kept = self.lists.note(number, walker, with_visits)?;
+        self.kept[number as usize] = kept;
+        Ok(())
+    }
+}
+
+/// How far a packet has come: the legs that it has done, how the last of them ended, and what it is then.
+///
+/// It is seen as that part of a journey.
+#[derive(Drop)]
+pub struct Trip<'a> {
+    number: u32,
+    legs: &'a [Leg],
+    outcome: Outcome,
+    bytes: &'a [u8],
+    checked: bool,
+    adjacency: Option<u16>,
+    interface: Option<u16>,
+    visits: &'a [u16],
+}
+
+impl<'a> Model for Trip<'a> {
+    ghost use Rattle.vg_model.specs.Journey.{Course};
+    ghost use Rattle.vg_replay.specs.View.{course_of, IsTrip};
 
     ghost Value = { Course };
-
-    ghost use Rattle.vg_replay.specs.View.{course_of, IsTrip};
 
     ghost view = { course_of };
 
     ghost invariant = { IsTrip };
 }
 
-impl Trip {
-    // A packet that has done no leg.
-    pub(crate) fn new(alloc: Global, number: u32) -> Trip
-        ensures { result ≡ begun number }
-    {
-        Trip {
-            number,
-            legs: Legs::new(),
-            outcome: Outcome::Sent { interface: 0 },
-            bytes: Vec::new(alloc),
-            checked: false,
-            adjacency: None,
-            interface: None,
-            visits: Vec::new(alloc),
-        }
-    }
-
-    // How far a packet that is walked has come, with the nodes that it visited or without.
-    pub(crate) fn of(
-        alloc: Global,
-        number: u32,
-        walker: &Walker,
-        with_visits: bool,
-    ) -> Result<Trip, AllocError>
-        ensures { IfOk result (IsKeptOf with_visits number (in_hand walker.now)) }
-    {
-        let legs = copied(walker.legs.as_slice());
-        let outcome = walker.outcome;
-        let visits = if with_visits {
-            Vec::from_slice(alloc, walker.visits.as_slice())?
-        } else {
-            Vec::new(alloc)
-        };
-        if let Outcome::Dropped { .. } = outcome {
-            return Ok(Trip {
-                number,
-                legs,
-                outcome,
-                bytes: Vec::new(alloc),
-                checked: false,
-                adjacency: None,
-                interface: None,
-                visits,
-            });
-        }
-        let buffer = &walker.buffer;
-        Ok(Trip {
-            number,
-            legs,
-            outcome,
-            bytes: Vec::from_slice(alloc, buffer.bytes())?,
-            checked: buffer.checked(),
-            adjacency: buffer.adjacency(),
-            interface: buffer.interface(),
-            visits,
-        })
-    }
-
+impl<'a> Trip<'a> {
     /// The legs that it has done, in order.
-    pub fn legs(&self) -> &[Leg]
+    pub fn legs(&self) -> &'a [Leg]
         ensures legs { result.now ≡ self.now.legs }
         ensures few { length result.now ≤ 4 }
     {
-        self.legs.as_slice()
+        self.legs
     }
 
     /// How the last of them ended.
@@ -113,25 +245,25 @@ impl Trip {
     }
 
     /// The packet's bytes.
-    pub fn bytes(&self) -> &[u8]
+    pub fn bytes(&self) -> &'a [u8]
         ensures bytes { result.now ≡ self.now.packet.bytes }
         ensures few { length result.now ≤ 2048 }
     {
-        self.bytes.as_slice()
+        self.bytes
     }
 
     /// The nodes that it visited, in order, leg after leg.
-    pub fn visits(&self) -> &[u16]
+    pub fn visits(&self) -> &'a [u16]
         ensures { result.now ≡ self.now.visits }
     {
-        self.visits.as_slice()
+        self.visits
     }
 
     // Puts the packet into a buffer, as it is.
     pub(crate) fn load(&self, buffer: &mut Buffer)
         ensures { buffer.new.packet ≡ self.now.packet }
     {
-        buffer.fill(self.number, self.bytes.as_slice());
+        buffer.fill(self.number, self.bytes);
         if let Some(adjacency) = self.adjacency {
             buffer.set_adjacency(adjacency);
         }

@@ -2,13 +2,14 @@
 ghost use Rattle.std.specs.Prelude.{◌≡◌, ◌↔◌, ◌+◌, ◌<◌, ◌≤◌, Some, None, length, drop, map, slice_get, IsTrue, IfOk, OnOk};
 ghost use Rattle.std.specs.List.{AllByRecursion};
 ghost use Rattle.vg_model.specs.Visit.{Visit};
-ghost use Rattle.vg_model.specs.Journey.{goes_together as goes_together_with, end_of};
+ghost use Rattle.vg_model.specs.Journey.{Course, goes_together as goes_together_with, end_of};
 ghost use Rattle.vg_model.specs.Valid.{AreBytes};
 ghost use Rattle.vg_plan.specs.Plan.{windows, IsGeneration};
 ghost use Rattle.vg_replay.specs.Counts.{CanCount};
 ghost use Rattle.vg_replay.specs.Courses.{in_hand};
 ghost use Rattle.vg_replay.specs.Legs.{outcome_of};
 ghost use Rattle.vg_replay.specs.Replays.{task_of, IsInput};
+ghost use Rattle.vg_replay.specs.Trips.{IsKeptOf};
 ghost use Rattle.vg_replay.specs.Walks.{IsHere, MayWalk, MayGo};
 
 use crate::counting::count;
@@ -16,7 +17,7 @@ use crate::inputs::Input;
 use crate::legs::Outcome;
 use crate::schedules::Schedule;
 use crate::times::starts_at;
-use crate::trips::Trip;
+use crate::trips::{Trip, Trips};
 use crate::walkers::Walker;
 use std::alloc::{AllocError, Global};
 use vg_capture::Capture;
@@ -35,7 +36,7 @@ const MOST_INTERFACES: u16 = 16;
 /// through. The packets before `stuck` are on their way; where there is a packet with that number, it has no journey.
 #[derive(Drop)]
 pub(crate) struct Underway {
-    pub trips: Vec<Trip>,
+    pub trips: Trips,
     pub schedule: Schedule,
     pub counts: Counters,
     pub walker: Walker,
@@ -80,7 +81,7 @@ fn take_leg<K: KindSet>(
     fork: &Fork,
     input: &Input<'_>,
     number: u32,
-    trip: &Trip,
+    trip: &Trip<'_>,
 ) -> Result<bool, AllocError>
     requires input { IsInput input.now }
     requires number { number < length input.now.capture.now.packets }
@@ -98,16 +99,16 @@ fn take_leg<K: KindSet>(
     walker.step(kinds, fork, input.workers)
 }
 
-// Takes a packet on, as far as its choice goes under a generation. `None` where its choice fits no journey.
+// Takes a packet on, as far as its choice goes under a generation, and tells whether the nodes that it visited are to be kept. `None`
+// where its choice fits no journey.
 fn go_on<K: KindSet>(
-    alloc: Global,
     walker: &mut Walker,
     kinds: &K,
     fork: &Fork,
     input: &Input<'_>,
     number: u32,
-    trip: &Trip,
-) -> Result<Option<Trip>, AllocError>
+    trip: &Trip<'_>,
+) -> Result<Option<bool>, AllocError>
     requires input { IsInput input.now }
     requires number { number < length input.now.capture.now.packets }
     requires graph { slice_get input.now.plan.now.graphs fork.now.generation ≡ Some fork.now.graph }
@@ -123,7 +124,7 @@ fn go_on<K: KindSet>(
     }
     'legs: for k in trip.legs().len() + 1..legs.len() {
         if legs[k].generation != fork.generation() {
-            return Ok(Some(Trip::of(alloc, number, walker, true)?));
+            return Ok(Some(true));
         }
         if !walker.step(kinds, fork, input.workers)? {
             return Ok(None);
@@ -132,12 +133,11 @@ fn go_on<K: KindSet>(
     if !goes_together(line.congested, walker.outcome) {
         return Ok(None);
     }
-    let is_traced = (number as usize) < input.traced;
-    Ok(Some(Trip::of(alloc, number, walker, is_traced)?))
+    Ok(Some((number as usize) < input.traced))
 }
 
 // Whether the next leg of a packet is of this generation.
-fn is_due(legs: &[Leg], trip: &Trip, generation: u32) -> bool
+fn is_due(legs: &[Leg], trip: &Trip<'_>, generation: u32) -> bool
     ensures { IsTrue result ↔ (slice_get (map (λ leg. leg.generation) legs.now) (length trip.now.legs) ≡ Some generation) }
 {
     match legs.get(trip.legs().len()) {
@@ -157,7 +157,7 @@ impl Underway {
             return Err(Memory);
         };
         Ok(Underway {
-            trips: Vec::new(alloc),
+            trips: Trips::new(alloc),
             schedule,
             counts: Counters::new(alloc, MOST_NODES, MOST_INTERFACES)?,
             walker: Walker::new(alloc)?,
@@ -166,12 +166,7 @@ impl Underway {
     }
 
     // Puts the packets into the schedule, up to the first whose generations don't begin with that of its time, fall, or aren't there.
-    pub(crate) fn begin(
-        &mut self,
-        alloc: Global,
-        input: &Input<'_>,
-        book: &Book,
-    ) -> Result<(), AllocError>
+    pub(crate) fn begin(&mut self, input: &Input<'_>, book: &Book) -> Result<(), AllocError>
         requires input { IsInput input.now }
         requires book { book.now ≡ windows input.now.plan.now input.now.capture.now }
         requires new { IsNew (length input.now.plan.now.graphs) self.old }
@@ -185,23 +180,24 @@ impl Underway {
             }
             know_bytes(input.capture.packets.bytes(number as usize));
             self.schedule.put(legs[0].generation, number)?;
-            self.trips.push(Trip::new(alloc, number))?;
+            self.trips.begin(number)?;
             self.stuck = number + 1;
         }
         Ok(())
     }
 
-    // Keeps how far the packet that was walked has come: it waits for the generation of its next leg, or is counted.
-    fn keep(&mut self, number: u32, trip: Trip, legs: &[Leg]) -> Result<(), AllocError>
-        requires number { number < length self.old.trips.items }
+    // Keeps how far the packet that was walked has come, with the nodes that it visited or without: it waits for the generation of its
+    // next leg, or is counted.
+    fn keep(&mut self, number: u32, with_visits: bool, legs: &[Leg]) -> Result<(), AllocError>
+        requires number { number < length self.old.trips }
         requires generations { AllByRecursion (λ leg. leg.generation < length self.old.schedule) legs.now }
-        requires count { slice_get (map (λ leg. leg.generation) legs.now) (length trip.legs) ≡ None
+        requires count { slice_get (map (λ leg. leg.generation) legs.now) (length self.old.walker.legs) ≡ None
             → CanCount self.old.walker.visits.items (end_of (outcome_of self.old.walker.outcome)) self.old.counts }
-        ensures { OnOk result (Keeps (slice_get (map (λ leg. leg.generation) legs.now) (length trip.legs)) number trip self.old self.new) }
+        ensures { OnOk result ((trip : Course) × IsKeptOf with_visits number (in_hand self.old.walker) trip
+            × Keeps (slice_get (map (λ leg. leg.generation) legs.now) (length trip.legs)) number trip self.old self.new) }
     {
-        let done = trip.legs().len();
-        self.trips[number as usize] = trip;
-        match legs.get(done) {
+        self.trips.keep(number, &self.walker, with_visits)?;
+        match legs.get(self.walker.legs.as_slice().len()) {
             Some(leg) => self.schedule.put(leg.generation, number),
             None => {
                 count(
@@ -217,7 +213,6 @@ impl Underway {
     // Takes the packet on whose number stands at a place of these.
     fn take_on<K: KindSet>(
         &mut self,
-        alloc: Global,
         input: &Input<'_>,
         kinds: &K,
         fork: &Fork,
@@ -236,14 +231,14 @@ impl Underway {
         }
         let line = input.lines.get(number as usize);
         let legs = line.legs.as_slice();
-        let trip = &self.trips[number as usize];
-        if !is_due(legs, trip, fork.generation()) {
+        let trip = self.trips.get(number as usize);
+        if !is_due(legs, &trip, fork.generation()) {
             return Ok(());
         }
         know_graphs(input.plan);
         know_few(input.capture);
-        match go_on(alloc, &mut self.walker, kinds, fork, input, number, trip)? {
-            Some(trip) => self.keep(number, trip, legs),
+        match go_on(&mut self.walker, kinds, fork, input, number, &trip)? {
+            Some(with_visits) => self.keep(number, with_visits, legs),
             None => {
                 self.stuck = number;
                 Ok(())
@@ -254,7 +249,6 @@ impl Underway {
     // Takes packets on that are due in a generation.
     pub(crate) fn take_all<K: KindSet>(
         &mut self,
-        alloc: Global,
         input: &Input<'_>,
         kinds: &K,
         fork: &Fork,
@@ -266,7 +260,7 @@ impl Underway {
         ensures { OnOk result (AreUnderway (task_of K.meaning input.now) input.now.traced (IsScheduled (fork.now.generation + 1) self.new.schedule) self.new) }
     {
         'numbers: for place in 0..numbers.len() {
-            self.take_on(alloc, input, kinds, fork, numbers, place)?;
+            self.take_on(input, kinds, fork, numbers, place)?;
         }
         Ok(())
     }

@@ -79,7 +79,7 @@ impl Walker {
     }
 
     // Takes up a packet that waited.
-    pub(crate) fn take_up(&mut self, trip: &Trip) -> Result<(), AllocError>
+    pub(crate) fn take_up(&mut self, trip: &Trip<'_>) -> Result<(), AllocError>
         ensures { OnOk result (in_hand self.new ≡ trip.now) }
     {
         trip.load(&mut self.buffer);

@@ -14,8 +14,9 @@ returns-then-legs-k g c =
     let task : Task = task_of g.K.KindSet.meaning c.args.input.now in
     let sound : IsSound task = sound_task g.K.KindSet.meaning c.args.input.now g.met.K.KindSet.lawful c.know_graphs.ensures c.requires.input in
     let chosen = choice_at c.args.input.now.lines.now c.args.number (line_seen c.get-line.result) c.as_slice-legs.result.now c.get-line.ensures c.as_slice-legs.ensures.legs in
-    goes_and_waits task sound c.args.input.now.traced c.args.fork.now.generation c.args.number c.args.fork.now.graph c.requires.graph c.as_slice-legs.result.now c.get-line.result.congested chosen c.bytes.result.now (bytes_at c.args.input.now.capture.now.packets c.args.number c.bytes.result.now c.bytes.ensures) c.know_bytes.ensures c.args.trip.now c.legs.k _ (in_hand c.legs.walker) c.in_ok-of.field-0
-    c.legs.invariant.walked c.legs.invariant.more (leg_generation c.as_slice-legs.result.now c.legs.k (record { worker = 0; generation = 0 }) c.legs-test.true) (λ e. c.if-legs-k.true (e ∙ sym c.generation.ensures)) c.in_ok-of.ensures
+    λ trip kept.
+    goes_and_waits task sound c.args.input.now.traced c.args.fork.now.generation c.args.number c.args.fork.now.graph c.requires.graph c.as_slice-legs.result.now c.get-line.result.congested chosen c.bytes.result.now (bytes_at c.args.input.now.capture.now.packets c.args.number c.bytes.result.now c.bytes.ensures) c.know_bytes.ensures c.args.trip.now c.legs.k _ (in_hand c.legs.walker) trip
+    c.legs.invariant.walked c.legs.invariant.more (leg_generation c.as_slice-legs.result.now c.legs.k (record { worker = 0; generation = 0 }) c.legs-test.true) (λ e. c.if-legs-k.true (e ∙ sym c.generation.ensures)) kept
 
 pub step-requires-clause-valid : goal.step-requires-clause-valid
 step-requires-clause-valid g c = valid_by c.args.input.now.plan.now.graphs c.know_graphs.ensures c.args.fork.now.generation c.args.fork.now.graph c.requires.graph
@@ -69,5 +70,6 @@ returns g c =
     let read = ap length c.legs-2.ensures.legs in
     let past : length c.as_slice-legs.result.now ≤ c.legs.k = c.legs-test.false in
     let end : c.legs.k ≤ length c.as_slice-legs.result.now = c.legs.auto.k-end (omega (arith, more, read)) in
-    goes_and_ends task sound c.args.input.now.traced c.args.fork.now.generation c.args.number c.args.fork.now.graph c.requires.graph c.as_slice-legs.result.now c.get-line.result.congested chosen c.bytes.result.now (bytes_at c.args.input.now.capture.now.packets c.args.number c.bytes.result.now c.bytes.ensures) c.know_bytes.ensures c.args.trip.now c.legs.k (in_hand c.legs.walker) c.in_ok-of-2.field-0 _ c.legs.invariant.walked (omega (arith, past, end)) c.legs.invariant.more
-    (sym c.goes_together.ensures ∙ c.if-not-goes_together.false) (λ h. lt-ltb c.args.number c.args.input.now.traced h) c.in_ok-of-2.ensures
+    λ trip kept.
+    goes_and_ends task sound c.args.input.now.traced c.args.fork.now.generation c.args.number c.args.fork.now.graph c.requires.graph c.as_slice-legs.result.now c.get-line.result.congested chosen c.bytes.result.now (bytes_at c.args.input.now.capture.now.packets c.args.number c.bytes.result.now c.bytes.ensures) c.know_bytes.ensures c.args.trip.now c.legs.k (in_hand c.legs.walker) trip _ c.legs.invariant.walked (omega (arith, past, end)) c.legs.invariant.more
+    (sym c.goes_together.ensures ∙ c.if-not-goes_together.false) (λ h. lt-ltb c.args.number c.args.input.now.traced h) kept

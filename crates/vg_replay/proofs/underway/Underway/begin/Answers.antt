@@ -54,7 +54,7 @@ packets-preserved c =
     let within : c.packets.number < length c.args.input.now.capture.now.packets = omega (arith, number_within) in
     let few = c.as_slice-legs.ensures.few in
     let many = many_generations c.as_slice-legs.result.now in
-    let trips : c.push.new.self.items ≡ c.packets.self.trips.items ++ begun c.packets.number ∷ [] = c.in_ok-push.ensures.items ∙ ap (λ t. c.packets.self.trips.items ++ t ∷ []) c.new.ensures in
+    let trips : c.begin.new.self ≡ c.packets.self.trips ++ begun c.packets.number ∷ [] = c.in_ok-begin.ensures in
     record {
       way = λ visit.
           one_underway (task_of visit c.args.input.now) c.args.input.now.traced c.packets.number _ c.bytes.result.now (with_legs c.as_slice-legs.result.now c.get-line.result.congested) c.packets.self _
@@ -67,7 +67,7 @@ packets-preserved c =
           c.know_bytes.ensures (omega (arith, few, many)) (leg_generation c.as_slice-legs.result.now 0 (record { worker = 0; generation = 0 }) there) c.in_ok-put.ensures trips refl refl;
       size = ap length c.in_ok-put.ensures ∙ length-set c.packets.self.schedule _ _ ∙ c.packets.invariant.size;
       stuck = refl;
-      count = ap length trips ∙ length_push c.packets.self.trips.items (begun c.packets.number) ∙ ap (λ n. n + 1) c.packets.invariant.count;
+      count = ap length trips ∙ length_push c.packets.self.trips (begun c.packets.number) ∙ ap (λ n. n + 1) c.packets.invariant.count;
     }
 
 pub returns : goal.returns

@@ -9,5 +9,5 @@ invariant-packets l = record {
   way : (visit : Visit) → AreOnTheWay (task_of visit l.input) l.input.traced (IsScheduled 0 l.self.schedule) l.self;
   size : length l.self.schedule ≡ length l.input.plan.now.graphs;
   stuck : l.self.stuck ≡ l.number;
-  count : length l.self.trips.items ≡ l.number;
+  count : length l.self.trips ≡ l.number;
 }
