@@ -2,6 +2,7 @@
 use Rattle.std.proofs.Common.{◌≡◌, ◌≢◌, ◌↔◌, ℕ, ◌<◌, ◌≤◌, Bool, true, false, List, [], ◌∷◌, length, refl, sym, ap, subst, ◌∙◌, arith}
 use Rattle.std.specs.Prelude.{Option, Some, None, Ok, Result, Err, IfOk, IsTrue, MatchOption}
 use Rattle.std.specs.List.{AllByRecursion}
+use Rattle.std.proofs.lemmas.Bool.{iff_false}
 use Rattle.std.proofs.lemmas.Option.{slice_get_within}
 use Rattle.vg_model.specs.Leg.{Outcome, Sent, Dropped, Handed}
 use Rattle.vg_model.specs.declared.fates.Leg.{Leg}
@@ -37,11 +38,11 @@ module _ (case : Case) (known : IsKnown case) (report : Report) (replayed : Repl
   travelled = record { headed = headed; taken = are.taken }
 
   -- packets are on workers that are there
-  pub on_workers : AllByRecursion IsOnWorkers replayed.trips.items
-  on_workers = all_by_get IsOnWorkers replayed.trips.items (λ k t at.
-      let e = as_many replayed.trips.items are.js are.trips in
-      let j = get_some are.js k (let h = slice_get_within replayed.trips.items k t at in omega (arith, h, e)) in
-      let same : told t ≡ told_of j.0 = told_at replayed.trips.items are.js are.trips k t j.0 at j.1 in
+  pub on_workers : AllByRecursion IsOnWorkers replayed.trips
+  on_workers = all_by_get IsOnWorkers replayed.trips (λ k t at.
+      let e = as_many replayed.trips are.js are.trips in
+      let j = get_some are.js k (let h = slice_get_within replayed.trips k t at in omega (arith, h, e)) in
+      let same : told t ≡ told_of j.0 = told_at replayed.trips are.js are.trips k t j.0 at j.1 in
       let inside = (journey_in case known report replayed lawful headed.head are k j.0 j.1).2 in
       let owned = own_journeys case.visit known.never report.workers lawful.workers.0 case.plan.graphs known.plan.generations (frames_of case.capture) (choices_of report) are.js are.taken.are_journeys in
       let own : IsOwn report.workers (length (frames_of case.capture)) j.0 = all_at (IsOwn report.workers (length (frames_of case.capture))) are.js k j.0 j.1 owned.0 in
@@ -62,18 +63,18 @@ module _ (case : Case) (known : IsKnown case) (report : Report) (replayed : Repl
       to_worker (Handed node worker) most h = (let k = h.1 in omega (arith, k, most))
 
   -- there are as many as packets
-  pub trips_many : length replayed.trips.items ≡ length case.capture.packets
-  trips_many = as_many replayed.trips.items are.js are.trips ∙ many case known report replayed lawful headed.head are
+  pub trips_many : length replayed.trips ≡ length case.capture.packets
+  trips_many = as_many replayed.trips are.js are.trips ∙ many case known report replayed lawful headed.head are
 
   -- a push that may not have been
-  pub queue_by : (number : ℕ) → IsFirstUnlawful case.queue report.packets replayed.trips.items number → IsVerdict case (verdicts.Queue number)
+  pub queue_by : (number : ℕ) → IsFirstUnlawful case.queue report.packets replayed.trips number → IsVerdict case (verdicts.Queue number)
   queue_by number is =
-      (report, are.js, travelled, first_refusal replayed.trips.items are.js are.trips report.packets (lines_named case known report replayed lawful headed.head are) case.queue number is)
+      (report, are.js, travelled, first_refusal replayed.trips are.js are.trips report.packets (lines_named case known report replayed lawful headed.head are) case.queue number is)
 
   -- all may have been
-  module _ (below : AreRefusalsBelow case.queue report.packets replayed.trips.items (length replayed.trips.items)) where
+  module _ (below : AreRefusalsBelow case.queue report.packets replayed.trips (length replayed.trips)) where
     pushes : ArePushesLawful case.queue are.js
-    pushes = all_pushes replayed.trips.items are.js are.trips report.packets (lines_named case known report replayed lawful headed.head are) case.queue below
+    pushes = all_pushes replayed.trips are.js are.trips report.packets (lines_named case known report replayed lawful headed.head are) case.queue below
 
     pushed : ArePushed case report are.js
     pushed = record { travelled = travelled; pushes = pushes }
@@ -85,29 +86,33 @@ module _ (case : Case) (known : IsKnown case) (report : Report) (replayed : Repl
     made_is = reported_is case known report replayed lawful headed.head are
 
     -- the text differs
-    pub text_by : case.report ≢ text (reported report replayed) → IsVerdict case verdicts.Text
+    text_by : case.report ≢ text (reported report replayed) → IsVerdict case verdicts.Text
     text_by apart = (report, are.js, pushed, λ e. apart (e ∙ ap text (sym made_is)))
 
     -- where it does not, the report is that of the journeys
-    same_report : IsLawful (reported report replayed) → case.report ≡ text (reported report replayed) → report ≡ report_by case report are.js
-    same_report lawful_made e =
+    same_report : report ≡ reported report replayed → report ≡ report_by case report are.js
+    same_report e = e ∙ made_is
+
+    -- the report is another, and so is its text
+    pub other_by : IsLawful (reported report replayed) → (report ≡ reported report replayed → ⊥) → IsVerdict case verdicts.Text
+    other_by lawful_made apart = text_by (λ e.
         let one : reading.report_of case.report ≡ Ok report = headed.is_report in
         let other : reading.report_of case.report ≡ Ok (reported report replayed) = ap reading.report_of e ∙ reads_back (reported report replayed) lawful_made in
-        same_ok report (reported report replayed) (sym one ∙ other) ∙ made_is
+        apart (same_ok report (reported report replayed) (sym one ∙ other)))
       where
         same_ok : {E : Type 0} (a b : Report) → ◌≡◌ {A = Result Report E} (Ok a) (Ok b) → a ≡ b
         same_ok a b e = cc
 
-    saved_is : sent_from 0 replayed.trips.items ≡ sent are.js
-    saved_is = sent_same 0 replayed.trips.items are.js are.trips (λ k j at.
+    saved_is : sent_from 0 replayed.trips ≡ sent are.js
+    saved_is = sent_same 0 replayed.trips are.js are.trips (λ k j at.
         let is = (journey_in case known report replayed lawful headed.head are k j at).1 in omega (arith, is))
 
     -- the savefile differs, and doesn't
-    pub tx_by : IsLawful (reported report replayed) → case.report ≡ text (reported report replayed) → case.tx ≢ savefile case.capture (sent_from 0 replayed.trips.items) → IsVerdict case verdicts.Tx
-    tx_by lawful_made e apart = (report, are.js, pushed, same_report lawful_made e, λ f. apart (f ∙ ap (savefile case.capture) (sym saved_is)))
+    pub tx_by : report ≡ reported report replayed → case.tx ≢ savefile case.capture (sent_from 0 replayed.trips) → IsVerdict case verdicts.Tx
+    tx_by e apart = (report, are.js, pushed, same_report e, λ f. apart (f ∙ ap (savefile case.capture) (sym saved_is)))
 
-    pub yes_by : IsLawful (reported report replayed) → case.report ≡ text (reported report replayed) → case.tx ≡ savefile case.capture (sent_from 0 replayed.trips.items) → IsVerdict case verdicts.Yes
-    yes_by lawful_made e f = (report, are.js, pushed, same_report lawful_made e, f ∙ ap (savefile case.capture) saved_is)
+    pub yes_by : report ≡ reported report replayed → case.tx ≡ savefile case.capture (sent_from 0 replayed.trips) → IsVerdict case verdicts.Yes
+    yes_by e f = (report, are.js, pushed, same_report e, f ∙ ap (savefile case.capture) saved_is)
 
 -- what is known once the packets were replayed: these are the trips
 pub record IsMade (case : Case) (report : Report) (replayed : Replayed) (trips : List Course) : Type 0 where
@@ -115,10 +120,10 @@ pub record IsMade (case : Case) (report : Report) (replayed : Replayed) (trips :
   pub lawful : IsLawful report
   pub headed : IsHeaded case report
   pub are : AreReplayed (task_by case report) (length report.traces) replayed
-  pub trips_are : trips ≡ replayed.trips.items
+  pub trips_are : trips ≡ replayed.trips
 
 pub made : (case : Case) (report : Report) (replayed : Replayed) (trips : List Course) (traced : ℕ) (read : Result Report Verdict) → IsKnown case → IsReadAs case.report read → read ≡ Ok report
-    → IsHead case.plan case.capture report → traced ≡ length report.traces → AreReplayed (task_by case report) traced replayed → trips ≡ replayed.trips.items → IsMade case report replayed trips
+    → IsHead case.plan case.capture report → traced ≡ length report.traces → AreReplayed (task_by case report) traced replayed → trips ≡ replayed.trips → IsMade case report replayed trips
 made case report replayed trips traced read known is_read is head traces are same =
     let law : (reading.report_of case.report ≡ Ok report) × IsLawful report = subst (IsReadAs case.report) is is_read in
     record {
@@ -151,7 +156,7 @@ module _ (case : Case) (report : Report) (replayed : Replayed) (trips : List Cou
 
     -- none was
     module _ (none : (number : ℕ) → refusal ≡ Some number → ⊥) where
-      below : AreRefusalsBelow case.queue report.packets replayed.trips.items (length replayed.trips.items)
+      below : AreRefusalsBelow case.queue report.packets replayed.trips (length replayed.trips)
       below = subst (λ ts. AreRefusalsBelow case.queue report.packets ts (length ts)) m.trips_are (by refusal found none)
         where
           by : (o : Option ℕ) → MatchOption o (AreRefusalsBelow case.queue report.packets trips (length trips)) (IsFirstUnlawful case.queue report.packets trips)
@@ -162,29 +167,22 @@ module _ (case : Case) (report : Report) (replayed : Replayed) (trips : List Cou
       pub reports : CanReport report replayed
       reports = can_be_reported case m.known report replayed m.lawful m.headed m.are below
 
-      module _ (bytes : List ℕ) (text_is : bytes ≡ text (reported report replayed)) (lawful_made : IsLawful (reported report replayed))
-          (same : Bool) (same_is : IsTrue same ↔ (bytes ≡ case.report)) where
-        -- the texts differ
-        pub other_text : same ≡ false → IsVerdict case verdicts.Text
-        other_text apart = text_by case m.known report replayed m.lawful m.headed m.are below (λ e. let yes : same ≡ true = same_is.1 (text_is ∙ sym e) in cc)
+      module _ (same : Bool) (same_is : IsTrue same ↔ (report ≡ reported report replayed)) where
+        -- the report is another
+        pub other_text : IsLawful (reported report replayed) → same ≡ false → IsVerdict case verdicts.Text
+        other_text lawful_made apart = other_by case m.known report replayed m.lawful m.headed m.are below lawful_made (iff_false same_is apart)
 
-        -- they are the same
-        module _ (yes : same ≡ true) where
-          one_text : case.report ≡ text (reported report replayed)
-          one_text = sym (same_is.0 yes) ∙ text_is
+        -- it is the same
+        module _ (yes : same ≡ true) (same_file : Bool) (same_file_is : IsTrue same_file ↔ (case.tx ≡ savefile case.capture (sent_from 0 trips))) where
+          -- the files differ
+          pub other_file : same_file ≡ false → IsVerdict case verdicts.Tx
+          other_file apart = tx_by case m.known report replayed m.lawful m.headed m.are below (same_is.0 yes)
+              (λ e. iff_false same_file_is apart (e ∙ ap (λ ts. savefile case.capture (sent_from 0 ts)) (sym m.trips_are)))
 
-          module _ (file : List ℕ) (file_is : file ≡ savefile case.capture (sent_from 0 trips)) (same_file : Bool) (same_file_is : IsTrue same_file ↔ (file ≡ case.tx)) where
-            file_of : file ≡ savefile case.capture (sent_from 0 replayed.trips.items)
-            file_of = file_is ∙ ap (λ ts. savefile case.capture (sent_from 0 ts)) m.trips_are
-
-            -- the files differ
-            pub other_file : same_file ≡ false → IsVerdict case verdicts.Tx
-            other_file apart = tx_by case m.known report replayed m.lawful m.headed m.are below lawful_made one_text
-                (λ e. let yes_file : same_file ≡ true = same_file_is.1 (file_of ∙ sym e) in cc)
-
-            -- they are the same
-            pub all_same : same_file ≡ true → IsVerdict case verdicts.Yes
-            all_same yes_file = yes_by case m.known report replayed m.lawful m.headed m.are below lawful_made one_text (sym (same_file_is.0 yes_file) ∙ file_of)
+          -- they are the same
+          pub all_same : same_file ≡ true → IsVerdict case verdicts.Yes
+          all_same yes_file = yes_by case m.known report replayed m.lawful m.headed m.are below (same_is.0 yes)
+              (same_file_is.0 yes_file ∙ ap (λ ts. savefile case.capture (sent_from 0 ts)) m.trips_are)
 
 -- the answer is yes exactly where it should be
 pub yes_where : {E : Type 0} (case : Case) (result : Result Verdict E) → IfOk result (IsVerdict case) → IfOk result (λ verdict. (verdict ≡ verdicts.Yes) ↔ IsAccepted case)

@@ -7,6 +7,7 @@ pub mod OutputLemmas
 pub mod AlikeLemmas
 pub mod GrowthLemmas
 pub mod EntryLemmas
+pub mod AgreementLemmas
 pub mod PushLemmas
 pub mod SaveLemmas
 pub mod ToldLemmas

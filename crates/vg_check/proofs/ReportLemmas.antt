@@ -143,8 +143,8 @@ module _ (case : Case) (known : IsKnown case) (report : Report) (replayed : Repl
           let interfaces = counted_are (λ interface. interface.name) (λ n. interface_count n are.js) replayed.last.interfaces replayed.counts.sends are.counts.sends in
           let nodes = counted_are (λ (node : Node). node.name) (λ n. node_count n are.js) replayed.last.nodes replayed.counts.visits are.counts.visits in
           let errors = errors_are are.js replayed.last.nodes replayed.counts.drops are.counts.drops in
-          let packets = lines_same replayed.last report.packets replayed.trips.items are.js lines_named are.trips in
-          let traces = traces_same replayed.last (length report.traces) replayed.trips.items are.js are.trips are.visits in
+          let packets = lines_same replayed.last report.packets replayed.trips are.js lines_named are.trips in
+          let traces = traces_same replayed.last (length report.traces) replayed.trips are.js are.trips are.visits in
           λ i. record {
             workers = report.workers;
             buffers = report.buffers;
@@ -222,27 +222,27 @@ module _ (case : Case) (known : IsKnown case) (report : Report) (replayed : Repl
       }
 
   -- the journey of a packet
-  journey_of_trip : (k : ℕ) (t : Course) → slice_get replayed.trips.items k ≡ Some t → (j : Journey) × (slice_get are.js k ≡ Some j) × (told t ≡ told_of j)
+  journey_of_trip : (k : ℕ) (t : Course) → slice_get replayed.trips k ≡ Some t → (j : Journey) × (slice_get are.js k ≡ Some j) × (told t ≡ told_of j)
   journey_of_trip k t at =
-      let there = get_some are.js k (let h = slice_get_within replayed.trips.items k t at in let e = as_many replayed.trips.items are.js are.trips in omega (arith, h, e)) in
-      (there.0, there.1, told_at replayed.trips.items are.js are.trips k t there.0 at there.1)
+      let there = get_some are.js k (let h = slice_get_within replayed.trips k t at in let e = as_many replayed.trips are.js are.trips in omega (arith, h, e)) in
+      (there.0, there.1, told_at replayed.trips are.js are.trips k t there.0 at there.1)
 
   -- all is there to report
   pub can_report : ArePushesLawful case.queue are.js → CanReport report replayed
   can_report pushes = record {
-    lines = sym (length-map report.packets choice_of) ∙ ap length lines_named ∙ length-map are.js chosen ∙ sym (as_many replayed.trips.items are.js are.trips);
-    few = (let h = lawful.few_traces.1 in let e = head.packets in let m = many in let t = as_many replayed.trips.items are.js are.trips in omega (arith, h, e, m, t));
+    lines = sym (length-map report.packets choice_of) ∙ ap length lines_named ∙ length-map are.js chosen ∙ sym (as_many replayed.trips are.js are.trips);
+    few = (let h = lawful.few_traces.1 in let e = head.packets in let m = many in let t = as_many replayed.trips are.js are.trips in omega (arith, h, e, m, t));
     nodes = (let h = last_generation.few_nodes in let e = are.nodes in omega (arith, h, e));
     interfaces = (let h = last_generation.few_interfaces in let e = are.interfaces in omega (arith, h, e));
-    ends = all_by_get (λ (t : Course). IsEndIn replayed.last (end_of t.outcome)) replayed.trips.items (λ k t at.
+    ends = all_by_get (λ (t : Course). IsEndIn replayed.last (end_of t.outcome)) replayed.trips (λ k t at.
         let j = journey_of_trip k t at in
         subst (λ o. IsEndIn replayed.last (end_of o)) (sym (ap (λ t. t.outcome) j.2)) (all_at (λ (j : Journey). IsEndIn replayed.last (end_of j.course.outcome)) are.js k j.0 j.1 ends_js));
     visits = visits_trips;
     lawful = λ a b. report_lawful (setting_of report case.queue) case.plan.graphs (length (frames_of case.capture)) are.js (reported report replayed) reported_is (reportable pushes) a b;
   }
     where
-      visits_trips : AllByRecursion (λ (t : Course). AllByRecursion (λ node. node < length replayed.last.nodes) (trace_of t)) (take (length report.traces) replayed.trips.items)
-      visits_trips = trips_by (length report.traces) replayed.trips.items are.js are.trips are.visits visits_js
+      visits_trips : AllByRecursion (λ (t : Course). AllByRecursion (λ node. node < length replayed.last.nodes) (trace_of t)) (take (length report.traces) replayed.trips)
+      visits_trips = trips_by (length report.traces) replayed.trips are.js are.trips are.visits visits_js
         where
           trips_by : (n : ℕ) (trips : List Course) (js : List Journey) → map told trips ≡ map told_of js → map (λ (t : Course). t.visits) (take n trips) ≡ map (λ (j : Journey). j.course.visits) (take n js)
               → AllByRecursion (λ (j : Journey). AllByRecursion (λ node. node < length replayed.last.nodes) (trace j)) js

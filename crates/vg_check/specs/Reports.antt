@@ -58,8 +58,8 @@ reported report replayed = record {
   interfaces = counted (λ interface. interface.name) replayed.last.interfaces replayed.counts.sends;
   nodes = counted (λ (node : Node). node.name) replayed.last.nodes replayed.counts.visits;
   errors = all_made replayed.last.nodes replayed.counts.drops;
-  packets = lines_by replayed.last report.packets replayed.trips.items;
-  traces = map (λ t. map (node_name replayed.last) (trace_of t)) (take (length report.traces) replayed.trips.items);
+  packets = lines_by replayed.last report.packets replayed.trips;
+  traces = map (λ t. map (node_name replayed.last) (trace_of t)) (take (length report.traces) replayed.trips);
 }
 
 -- the names of counts are names
@@ -68,10 +68,10 @@ AreNames counts = AllByRecursion (λ (entry : List ℕ × ℕ). IsName entry.0) 
 
 -- all that the report names is in the last graph, and where names are names the report is lawful
 pub record CanReport (report : Report) (replayed : Replayed) : Type 0 where
-  pub lines : length report.packets ≡ length replayed.trips.items
-  pub few : length report.traces ≤ length replayed.trips.items
+  pub lines : length report.packets ≡ length replayed.trips
+  pub few : length report.traces ≤ length replayed.trips
   pub nodes : length replayed.last.nodes ≤ length replayed.counts.visits
   pub interfaces : length replayed.last.interfaces ≤ length replayed.counts.sends
-  pub ends : AllByRecursion (λ (t : Course). IsEndIn replayed.last (end_of t.outcome)) replayed.trips.items
-  pub visits : AllByRecursion (λ (t : Course). AllByRecursion (λ node. node < length replayed.last.nodes) (trace_of t)) (take (length report.traces) replayed.trips.items)
+  pub ends : AllByRecursion (λ (t : Course). IsEndIn replayed.last (end_of t.outcome)) replayed.trips
+  pub visits : AllByRecursion (λ (t : Course). AllByRecursion (λ node. node < length replayed.last.nodes) (trace_of t)) (take (length report.traces) replayed.trips)
   pub lawful : AreNames (reported report replayed).interfaces → AreNames (reported report replayed).nodes → IsLawful (reported report replayed)

@@ -8,9 +8,9 @@ ghost use Rattle.vg_check.specs.Congestion.{NeverCongests};
 ghost use Rattle.vg_check.specs.Points.{IsHead};
 ghost use Rattle.vg_check.specs.Verdicts.{IsVerdict, IsAccepted, IsReadAs, case_of};
 
+use crate::agreement::is_reported;
 use crate::pushes::first_unlawful;
-use crate::reporting::text_of;
-use crate::saves::saved;
+use crate::saves::is_saved;
 use crate::verdicts::Verdict;
 use std::alloc::Global;
 use vg_capture::Capture;
@@ -51,13 +51,6 @@ fn read(alloc: Global, text: &[u8]) -> Result<Result<Report, Verdict>, Memory>
             })),
         },
     }
-}
-
-// Whether bytes are the same.
-fn are_bytes(ones: &[u8], others: &[u8]) -> bool
-    ensures { IsTrue result ↔ (ones.now ≡ others.now) }
-{
-    ones == others
 }
 
 // What holds of each plan, and how many packets a capture has.
@@ -103,16 +96,16 @@ fn verdict<K: KindSet>(
         Err(ReplayError::Choices(number)) => return Ok(Verdict::Choices(number)),
         Err(ReplayError::Memory) => return Err(Memory),
     };
-    let trips = replayed.trips.as_slice();
+    let trips = &replayed.trips;
     if let Some(number) = first_unlawful(queue, &report.packets, trips) {
         return Ok(Verdict::Queue(number));
     }
-    let made = text_of(alloc, &report, &replayed)?;
-    if !are_bytes(made.as_slice(), text) {
+    let reported = is_reported(alloc, &report, &replayed)?;
+    if !reported {
         return Ok(Verdict::Text);
     }
-    let file = saved(alloc, capture, trips, tx.len())?;
-    if !are_bytes(file.as_slice(), tx) {
+    let saved = is_saved(alloc, capture, trips, tx)?;
+    if !saved {
         return Ok(Verdict::Tx);
     }
     Ok(Verdict::Yes)

@@ -5,6 +5,7 @@
 //! what a run of any number of them had to put out.
 #![tactic(auto)]
 
+mod agreement;
 pub mod checks;
 pub mod laws;
 mod pushes;

@@ -5,7 +5,7 @@ ghost use Rattle.vg_model.specs.Lawful.{hands_in, last_worker as last_of};
 ghost use Rattle.vg_check.specs.Hands.{AreHands, AreRefusalsBelow, IsFirstUnlawful, IsOnWorkers, IsRefusalOf, handed};
 
 use vg_model::Leg;
-use vg_replay::{Outcome, Trip};
+use vg_replay::{Outcome, Trip, Trips};
 use vg_report::PacketLines;
 
 /// The most workers.
@@ -35,20 +35,21 @@ fn add_hands(counts: &mut [u64; 64], legs: &[Leg])
 }
 
 // How often packets go over from each worker to each other, by the first worker and then the second.
-fn all_hands(trips: &[Trip]) -> [u64; 64]
+fn all_hands(trips: &Trips) -> [u64; 64]
     requires few { length trips.now ≤ 65536 }
     requires workers { AllByRecursion IsOnWorkers trips.now }
     ensures { AreHands trips.now result }
 {
     let mut counts = [0; 64];
-    for trip in trips {
+    for k in 0..trips.len() {
+        let trip = trips.get(k);
         add_hands(&mut counts, trip.legs());
     }
     counts
 }
 
 // The worker of the last leg.
-fn last_worker(trip: &Trip) -> u8
+fn last_worker(trip: &Trip<'_>) -> u8
     requires { IsOnWorkers trip.now }
     ensures { result ≡ last_of trip.now.legs }
 {
@@ -60,9 +61,9 @@ fn last_worker(trip: &Trip) -> u8
 fn is_lawful(
     slots: u64,
     counts: &[u64],
-    trips: &[Trip],
+    trips: &Trips,
     congested: Option<u64>,
-    trip: &Trip,
+    trip: &Trip<'_>,
 ) -> bool
     requires hands { AreHands trips.now counts.now }
     requires workers { IsOnWorkers trip.now }
@@ -80,7 +81,7 @@ fn is_lawful(
 }
 
 /// The number of the first packet whose refused push may not have been; None where there is none.
-pub(crate) fn first_unlawful(slots: u64, lines: &PacketLines, trips: &[Trip]) -> Option<u32>
+pub(crate) fn first_unlawful(slots: u64, lines: &PacketLines, trips: &Trips) -> Option<u32>
     requires few { length trips.now ≤ 65536 }
     requires lines { length lines.now ≡ length trips.now }
     requires workers { AllByRecursion IsOnWorkers trips.now }
@@ -89,7 +90,8 @@ pub(crate) fn first_unlawful(slots: u64, lines: &PacketLines, trips: &[Trip]) ->
     let counts = all_hands(trips);
     for k in 0..trips.len() {
         let congested = lines.get(k).congested;
-        if !is_lawful(slots, counts.as_slice(), trips, congested, &trips[k]) {
+        let trip = trips.get(k);
+        if !is_lawful(slots, counts.as_slice(), trips, congested, &trip) {
             return Some(k as u32);
         }
     }

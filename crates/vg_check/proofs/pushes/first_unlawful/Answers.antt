@@ -1,16 +1,13 @@
-use Rattle.std.proofs.Common.{◌≡◌, ◌<◌, length, refl, arith}
-use Rattle.std.specs.Prelude.{Some, slice_get}
-use Rattle.std.proofs.lemmas.Option.{slice_get_read}
+use Rattle.vg_model.proofs.LegEnds.{all_at}
 use Rattle.vg_report.specs.Seen.{line_seen}
+use Rattle.vg_check.specs.Hands.{IsOnWorkers}
 use Rattle.vg_check.proofs.PushLemmas.{below_more}
 use Rattle.vg_check.proofs.pushes.first_unlawful.Goals as goal
 
+pub is_lawful-requires-clause-workers : goal.is_lawful-requires-clause-workers
+is_lawful-requires-clause-workers c = all_at IsOnWorkers c.args.trips.now c.loop-k.k c.get-trip.result c.get-trip.ensures c.requires.workers
+
 pub loop-k-preserved : goal.loop-k-preserved
 loop-k-preserved c =
-    let trips = c.args.trips.now in
-    let k = c.loop-k.k in
-    let t = c.index-trips-k.result in
-    let within : k < length trips = omega (arith, c.loop-k-test.true) in
-    let is_trip : slice_get trips k ≡ Some t = slice_get_read trips (length trips) k t refl within c.index-trips-k.is in
-    below_more c.args.slots k c.args.lines.now trips (line_seen c.get-congested.result) t c.loop-k.invariant c.get-congested.ensures is_trip
+    below_more c.args.slots c.loop-k.k c.args.lines.now c.args.trips.now (line_seen c.get-congested.result) c.get-trip.result c.loop-k.invariant c.get-congested.ensures c.get-trip.ensures
     (c.is_lawful.ensures.0 c.if-not-is_lawful.false)
