@@ -2,11 +2,12 @@
 ghost use Rattle.std.specs.Prelude.{◌≡◌, ◌≤◌, [], map, vec_len, vec_capacity};
 ghost use Rattle.vg_engine.specs.Starts.{started_tie};
 
-use crate::posts::{Posts, have_drawn};
+use crate::mains::Stage;
+use crate::patience::Patience;
+use crate::posts::{Desk, Posts};
 use crate::started::{Started, joined, start, turn_here};
 use crate::teams::{Joined, Team};
 use crate::tied::{Tied, TiedMain};
-use crossbeam_utils::Backoff;
 use std::alloc::Global;
 use std::sync::Wait;
 use std::sync::ledger::Ledger;
@@ -37,13 +38,16 @@ fn start_all<
     posts: &'a Posts,
 ) -> Vec<Started<'a, K, H, T, L>>
     requires room { (room.items ≡ []) × (vec_len workers ≤ vec_capacity room) }
-    requires posts { vec_len posts.now ≡ vec_len workers }
+    requires posts { vec_len posts.now.workers ≡ vec_len workers }
     ensures { map started_tie result.items ≡ workers.entry.items }
 {
     let mut started = room;
     for worker in workers {
-        let post = &posts[started.len()];
-        started.push_reserved(start(rt, scope, worker, gate, post));
+        let desk = Desk {
+            own: &posts.workers[started.len()],
+            all: posts,
+        };
+        started.push_reserved(start(rt, scope, worker, gate, desk));
     }
     started
 }
@@ -66,8 +70,8 @@ fn turn_all_here<'a, K: KindSet, H: Handoff<HandFrame>, T: PoolLedger, L: Ledger
 /// Main's steps, with turns of the workers that are here, until main has told the workers to stop and all of them have left.
 ///
 /// Since each hold of the barrier stops all workers, main asks for it once they have told that they have drawn their packets below
-/// the limit, or after a pause that is longer the farther they had to go at the last hold. Where it has to wait it spins a little,
-/// and then yields.
+/// the limit, or after a pause that is longer the farther they had to go at the last hold. Whenever it asks or releases them, it wakes
+/// those that sleep.
 fn lead_started<'a, K: KindSet, H: Handoff<HandFrame>, T: PoolLedger, L: Ledger, R: Wait, G: Gate>(
     rt: &R,
     alloc: Global,
@@ -81,24 +85,29 @@ fn lead_started<'a, K: KindSet, H: Handoff<HandFrame>, T: PoolLedger, L: Ledger,
 {
     let mut main = main;
     let mut looks = 0;
-    let backoff = Backoff::new();
+    posts.tell_limit(main.way().limit);
+    let mut patience = Patience::new();
     for _ in rt.forever() {
         if main.is_over() {
             return main;
         }
-        let idle = main.is_idle();
+        let stage = main.stage();
         let way = main.way();
-        if idle && looks < way.pause() && !have_drawn(posts, way.limit) {
+        if stage == Stage::Idle && looks < way.pause() && !posts.have_drawn(way.limit) {
             looks += 1;
         } else {
             looks = 0;
             main = main.step(alloc);
         }
         let moved = turn_all_here(started, rt, gate);
-        if moved || main.is_idle() != idle {
-            backoff.reset();
+        if main.stage() != stage {
+            posts.tell_limit(main.way().limit);
+            posts.wake_workers();
+            patience = Patience::new();
+        } else if moved {
+            patience = Patience::new();
         } else {
-            backoff.snooze();
+            posts.let_main_wait(rt, &mut patience);
         }
     }
     unreachable!()

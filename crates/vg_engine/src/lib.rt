@@ -17,6 +17,7 @@ mod leading;
 pub mod links;
 mod lists;
 mod mains;
+mod patience;
 mod posts;
 pub mod rests;
 pub mod runs;

@@ -22,6 +22,17 @@ pub(crate) enum Phase {
     Clearing(Clearing<WorkerParcel>),
 }
 
+/// What main does, without what it has for it.
+#[derive(Clone, Copy, PartialEq, Eq)]
+pub(crate) enum Stage {
+    /// All workers run.
+    Idle,
+    /// It has asked the workers to park.
+    Asked,
+    /// It has released the workers.
+    Clearing,
+}
+
 /// How often main looks how far the workers are, at most, for each packet that they had to pass.
 const LOOKS: u64 = 64;
 
@@ -97,14 +108,18 @@ impl Main {
         Main { phase, lead, way }
     }
 
-    /// Whether the workers run, and none is asked to park.
-    pub(crate) fn is_idle(&self) -> bool {
-        matches!(self.phase, Phase::Idle(_))
+    /// What main does.
+    pub(crate) fn stage(&self) -> Stage {
+        match self.phase {
+            Phase::Idle(_) => Stage::Idle,
+            Phase::Asked(_) => Stage::Asked,
+            Phase::Clearing(_) => Stage::Clearing,
+        }
     }
 
     /// Whether main has told the workers to stop, and all of them have left.
     pub(crate) fn is_over(&self) -> bool {
-        self.is_idle() && self.lead.told != Stop::No
+        self.stage() == Stage::Idle && self.lead.told != Stop::No
     }
 
     /// Main's seat once it is idle, and what it leads by.

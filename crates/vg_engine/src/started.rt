@@ -2,9 +2,9 @@
 ghost use Rattle.std.specs.Prelude.{◌≡◌};
 ghost use Rattle.vg_engine.specs.Starts.{started_tie};
 
-use crate::posts::Post;
+use crate::patience::Patience;
+use crate::posts::Desk;
 use crate::tied::{Same, Tied};
-use crossbeam_utils::Backoff;
 use std::snapshot::Snapshot;
 use std::sync::Wait;
 use std::sync::ledger::Ledger;
@@ -15,11 +15,11 @@ use vg_nodes::KindSet;
 use vg_outside::Gate;
 use vg_pool::PoolLedger;
 
-/// A worker with the post by which it tells its mark.
+/// A worker with the desk at which it tells how far it is.
 #[derive(Drop)]
 pub(crate) struct Posted<'a, K: KindSet, H: Handoff<HandFrame>, T: PoolLedger, L: Ledger> {
     pub tied: Tied<'a, K, H, T, L>,
-    pub post: &'a Post,
+    pub desk: Desk<'a>,
 }
 
 /// A worker that was started.
@@ -31,61 +31,92 @@ pub(crate) enum Started<'a, K: KindSet, H: Handoff<HandFrame>, T: PoolLedger, L:
     Here(Posted<'a, K, H, T, L>),
 }
 
-/// What comes after a turn of a worker.
-#[derive(Clone, Copy)]
+/// What a turn of a worker came to.
+#[derive(Clone, Copy, PartialEq, Eq)]
 enum After {
-    /// The next turn.
-    Turn,
-    /// The next turn, once others had theirs: the worker is parked, or drew nothing.
-    Pause,
-    /// No turn any more.
-    End,
+    /// It drew packets, or took or handed over a frame.
+    Moved,
+    /// It did none of that, and has packets to draw.
+    Nothing,
+    /// It did none of that, and has drawn its packets below the limit.
+    Through,
+    /// It is parked.
+    Parked,
+    /// It has stopped.
+    Stopped,
 }
 
-/// One turn of a worker, which tells where its mark moves on.
+/// One turn of a worker, which tells where its mark moves on, and wakes the others where it has taken a frame of one of them, or handed
+/// one over.
 fn turn_at<'a, K: KindSet, H: Handoff<HandFrame>, T: PoolLedger, L: Ledger, R: Wait, G: Gate>(
     tied: &mut Tied<'a, K, H, T, L>,
     rt: &R,
     gate: &G,
-    post: &Post,
+    desk: Desk<'_>,
 ) -> After
     ensures { tied.new ≡ tied.old }
 {
-    let before = tied.mark();
+    let mark = tied.mark();
+    let frames = tied.frames();
     match tied.turn(rt, gate) {
-        Turn::Stopped => After::End,
-        Turn::Parked => After::Pause,
+        Turn::Stopped => After::Stopped,
+        Turn::Parked => After::Parked,
         Turn::Ran => {
-            let mark = tied.mark();
-            if mark == before {
-                return After::Pause;
+            let handed = tied.frames() != frames;
+            if handed {
+                desk.all.wake_sleepers();
             }
-            post.tell(mark);
-            After::Turn
+            if tied.mark() != mark {
+                desk.own.tell(tied.mark());
+                return After::Moved;
+            }
+            if handed {
+                After::Moved
+            } else if mark < desk.limit() {
+                After::Nothing
+            } else {
+                After::Through
+            }
         }
     }
 }
 
-/// Turns of a worker, until it has stopped, or its start was refused. Where it has to wait it spins a little, and then yields.
+// Whether main may wait for this, after a turn that came to `last`: the worker is through, is parked, or is so no longer.
+fn concerns_main(last: After, after: After) -> bool {
+    after != last && (matches!(after, After::Through | After::Parked) || last == After::Parked)
+}
+
+/// Turns of a worker, until it has stopped, or its start was refused. Between two turns that came to the same, but for those that moved
+/// the worker on, it waits.
 fn work<'a, K: KindSet, H: Handoff<HandFrame>, T: PoolLedger, L: Ledger, R: Wait, G: Gate>(
     rt: &R,
     mut tied: Tied<'a, K, H, T, L>,
     gate: &G,
-    post: &Post,
+    desk: Desk<'_>,
 ) -> Tied<'a, K, H, T, L>
     ensures { result ≡ tied.entry }
 {
-    let backoff = Backoff::new();
+    let mut last = After::Moved;
+    let mut patience = Patience::new();
     for _ in rt.forever() {
-        if post.is_refused() {
+        if desk.own.is_refused() {
             break;
         }
-        match turn_at(&mut tied, rt, gate, post) {
-            After::Turn => backoff.reset(),
-            After::Pause => backoff.snooze(),
-            After::End => break,
+        let after = turn_at(&mut tied, rt, gate, desk);
+        if after == After::Stopped {
+            break;
         }
+        if concerns_main(last, after) {
+            desk.wake_main();
+        }
+        if after == After::Moved || after != last {
+            patience = Patience::new();
+        } else {
+            desk.let_worker_wait(rt, &mut patience);
+        }
+        last = after;
     }
+    desk.wake_main();
     tied
 }
 
@@ -106,21 +137,21 @@ pub(crate) fn start<
     scope: &Scope<'s, E>,
     tied: Tied<'a, K, H, T, L>,
     gate: &'a G,
-    post: &'a Post,
+    desk: Desk<'a>,
 ) -> Started<'a, K, H, T, L>
     ensures { started_tie result ≡ tied.entry }
 {
     let promise = Same {
         given: Snapshot::of(&tied),
     };
-    post.tell(tied.mark());
-    match scope.spawn_with(promise, move || work(rt, tied, gate, post)) {
+    desk.own.tell(tied.mark());
+    match scope.spawn_with(promise, move || work(rt, tied, gate, desk)) {
         Ok(handle) => Started::There(handle),
         Err(back) => {
-            post.refuse();
+            desk.own.refuse();
             Started::Here(Posted {
                 tied: (back.value)(),
-                post,
+                desk,
             })
         }
     }
@@ -140,10 +171,9 @@ pub(crate) fn turn_here<
 {
     match started {
         Started::There(_) => false,
-        Started::Here(worker) => match turn_at(&mut worker.tied, rt, gate, worker.post) {
-            After::Turn => true,
-            After::Pause | After::End => false,
-        },
+        Started::Here(worker) => {
+            turn_at(&mut worker.tied, rt, gate, worker.desk) == After::Moved
+        }
     }
 }
 
@@ -157,7 +187,7 @@ pub(crate) fn joined<'a, K: KindSet, H: Handoff<HandFrame>, T: PoolLedger, L: Le
     match started {
         Started::There(handle) => handle.join(rt),
         Started::Here(worker) => {
-            let Posted { tied, post: _ } = worker;
+            let Posted { tied, desk: _ } = worker;
             tied
         }
     }

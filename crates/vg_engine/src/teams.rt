@@ -31,7 +31,7 @@ pub(crate) struct Team<'a, K: KindSet, H: Handoff<HandFrame>, T: PoolLedger, L: 
     /// Room for them, once they are joined.
     pub joined: Vec<Tied<'a, K, H, T, L>>,
     ghost rooms: { (started.items ≡ []) × (vec_len workers ≤ vec_capacity started) × (joined.items ≡ []) × (vec_len workers ≤ vec_capacity joined) },
-    ghost posted: { vec_len posts.now ≡ vec_len workers },
+    ghost posted: { vec_len posts.now.workers ≡ vec_len workers },
 }
 
 /// The workers and main, once all threads have ended.

@@ -52,7 +52,7 @@ fn run_workers<
     gate: &'a G,
     posts: &'a Posts,
 ) -> Result<(Main, Vec<Worker<K, H, T, L>>), Memory>
-    requires posts { vec_len posts.now ≡ vec_len workers }
+    requires posts { vec_len posts.now.workers ≡ vec_len workers }
     requires main { IsMain input.now.plan.now input.now.capture.now barrier.now main }
     requires crew { IsCrew K.meaning H.LOSSLESS input.now.plan.now input.now.capture.now input.now.options.now (barrier_id barrier.now) workers.items }
     ensures main { IfOk result (λ run. IsMain input.entry.now.plan.now input.entry.now.capture.now barrier.entry.now run.0) }

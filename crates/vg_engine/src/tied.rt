@@ -4,7 +4,7 @@ ghost use Rattle.vg_dispatch.specs.Standing.{barrier_id};
 ghost use Rattle.vg_engine.specs.Leads.{IsMain};
 ghost use Rattle.vg_engine.specs.Ties.{IsTied, IsTiedMain, IsWorkerAt, tie_of};
 
-use crate::mains::{Main, Way};
+use crate::mains::{Main, Stage, Way};
 use std::alloc::Global;
 use std::marker::Model;
 use std::snapshot::Snapshot;
@@ -70,6 +70,22 @@ impl<'a, K: KindSet, H: Handoff<HandFrame>, T: PoolLedger, L: Ledger> Tied<'a, K
     /// The number of the next packet that the worker draws.
     pub(crate) fn mark(&self) -> u64 {
         self.worker.mark()
+    }
+
+    /// How many frames the worker has handed to others and taken of them.
+    pub(crate) fn frames(&self) -> u64 {
+        let workers = self.input.options.workers;
+        // The packets that it draws tell its number.
+        let number = (self.worker.mark() % u64::from(workers)) as u8;
+        let mut frames: u64 = 0;
+        for other in 0..workers {
+            if other != number {
+                frames = frames
+                    .wrapping_add(self.worker.accepted(other))
+                    .wrapping_add(self.worker.dispatched(other));
+            }
+        }
+        frames
     }
 
     /// The worker.
@@ -150,9 +166,9 @@ impl<'a> TiedMain<'a> {
         }
     }
 
-    /// Whether the workers run, and none is asked to park.
-    pub(crate) fn is_idle(&self) -> bool {
-        self.main.is_idle()
+    /// What main does.
+    pub(crate) fn stage(&self) -> Stage {
+        self.main.stage()
     }
 
     /// Whether main has told the workers to stop, and all of them have left.
