@@ -251,7 +251,7 @@ pub record IsGated (visit : Visit) (lossless : Bool) (options : Options) (g : Gr
   pub draws_is : IsTrue draws ↔ (IsTrue goes × AllByRecursion (λ (o : Outlet). o.closed ≡ false) ticked)
   pub tried_is : MatchBool goes (tried ≡ length queues) (tried ≡ 0)
   pub took_size : length took ≡ tried
-  pub tries : AreTried (MayComeNext (stationed visit g generation (record { workers = options.workers; worker = number; slots = options.queue })) (record { packets = packets; bytes = bytes; own = own; left = left; taken = taken }) (vec_len work.fates) (vec_len work.bytes))
+  pub tries : AreTried (MayComeNext (stationed visit g generation (record { workers = options.workers; worker = number; slots = options.queue })) (record { packets = packets; bytes = bytes; own = own; left = left; taken = taken }) (length work.fates.items) (vec_len work.bytes))
       0 0 queues new_queues took
   pub taken_is : taken ≡ sum_by (λ (q : Queue). packets_in q.taken) queues
   pub sent_is : sum_by sent_size (sent_by work.entries.items work.bytes.items) ≡ vec_len work.bytes
@@ -336,20 +336,20 @@ round_did visit lossless plan capture options g generation limit number mark own
     min_least : (a b : ℕ) → min a b ≤ b
     min_least a b = omega arith
 
-    public_may : (from : ℕ) → from ≢ number → from < length took + 1 → number ≤ length took → (frame : HandoffFrame) → MayComeNext (stationed visit g generation (record { workers = options.workers; worker = number; slots = options.queue })) (record { packets = packets; bytes = bytes; own = own; left = left; taken = taken }) (vec_len work.fates) (vec_len work.bytes)
+    public_may : (from : ℕ) → from ≢ number → from < length took + 1 → number ≤ length took → (frame : HandoffFrame) → MayComeNext (stationed visit g generation (record { workers = options.workers; worker = number; slots = options.queue })) (record { packets = packets; bytes = bytes; own = own; left = left; taken = taken }) (length work.fates.items) (vec_len work.bytes)
         (0 + sum_by packets_in (take (place_among number from) took)) (0 + sum_by bytes_in (take (place_among number from) took)) frame ↔ MayTakeFrom g generation old_book (by_worker number [] took) from frame
     public_may from other inside here frame =
         let ps = before_is packets_in refl number from took other inside here in
         let bs = before_is bytes_in refl number from took other inside here in
         let t1 = ap (sum_by packets_in) was.taken_is in let t2 = sum_by_worker packets_in refl number (map (λ (q : Queue). q.taken) queues) in let t3 = sum_mapped queues in let t4 = k.taken_is in
-        let l1 = ap length was.log_is in let l2 = work.fates.ok.0 in
+        let l1 = ap length was.log_is in
         let s1 = ap (sum_by sent_size) was.sent_is in let s2 = k.sent_is in
         let p = was.packets_are in let b = was.bytes_are in let o = was.own_is in let f = was.left_is in (
           λ may. (
             may.0,
             (let i = may.1 in let i1 = i.taken in let i2 = i.fates in let i3 = i.bytes_most in record {
               taken = omega (arith, i1, ps, t1, t2, t3, t4, p);
-              fates = omega (arith, i2, ps, l1, l2, p, o);
+              fates = omega (arith, i2, ps, l1, p, o);
               bytes_most = omega (arith, i3, bs, s1, s2, b, f);
             }),
           ),
@@ -357,7 +357,7 @@ round_did visit lossless plan capture options g generation limit number mark own
             may.0,
             (let i = may.1 in let i1 = i.taken in let i2 = i.fates in let i3 = i.bytes_most in record {
               taken = omega (arith, i1, ps, t1, t2, t3, t4, p);
-              fates = omega (arith, i2, ps, l1, l2, p, o);
+              fates = omega (arith, i2, ps, l1, p, o);
               bytes_most = omega (arith, i3, bs, s1, s2, b, f);
             }),
           ),
@@ -377,7 +377,7 @@ round_did visit lossless plan capture options g generation limit number mark own
         let longer = taken_length queues new_queues took r.taken_is in
         at queues (λ d.
         let next : (packets bytes : ℕ) → HandoffFrame → Type 0 =
-        MayComeNext (stationed visit g generation (record { workers = options.workers; worker = number; slots = options.queue })) (record { packets = packets; bytes = bytes; own = own; left = left; taken = taken }) (vec_len work.fates) (vec_len work.bytes) in
+        MayComeNext (stationed visit g generation (record { workers = options.workers; worker = number; slots = options.queue })) (record { packets = packets; bytes = bytes; own = own; left = left; taken = taken }) (length work.fates.items) (vec_len work.bytes) in
         let found = tries_at next 0 0 queues new_queues took d (place_among number from) (omega (arith, place, size)) k.tries in
         let may = public_may from apart (omega (arith, inside, size)) (omega (arith, here, size)) in
         subst (λ i. Tries (MayTakeFrom g generation old_book (by_worker number [] took) from) i (frames_with from (by_worker number [] took)) (intake_from new_book from))

@@ -360,7 +360,7 @@ enters_advances s e first via c w new ok held can arrives draws =
       sent = ap (λ (x : Work). sent_by x.entries.items x.bytes.items) draws.rest ∙ sym (append-nil _);
       entries_most = (let e = ap (λ (x : Work). vec_len x.entries) draws.rest in omega (arith, e));
       bytes = (let e = ap (λ (x : Work). vec_len x.bytes) draws.rest in omega (arith, e));
-      room = ((let e = ap (λ (x : Work). vec_capacity x.fates) draws.rest in omega (arith, e)), (let e = ap (λ (x : Work). vec_capacity x.entries) draws.rest in omega (arith, e)), (let e = ap (λ (x : Work). vec_capacity x.bytes) draws.rest in omega (arith, e)));
+      room = ((let e = ap (λ (x : Work). x.fates.room) draws.rest in omega (arith, e)), (let e = ap (λ (x : Work). vec_capacity x.entries) draws.rest in omega (arith, e)), (let e = ap (λ (x : Work). vec_capacity x.bytes) draws.rest in omega (arith, e)));
       size = record { nodes = ap (λ (x : Tally). length x.visits) counts ∙ length-set w.counts.visits first _; interfaces = ap (λ (x : Tally). length x.sends) counts };
       visited = (let v1 = ap (λ (x : Tally). counts_from (λ n. 1) 0 x.visits) counts ∙ source_counts (λ n. 1) first w.counts can.source.0 in omega (arith, v1));
       drops = λ n error. (let d = ap (λ (x : Tally). drops_at n (error_number error) x.drops) counts in omega (arith, d));

@@ -2,6 +2,7 @@ pub mod SumLemmas
 pub mod OutletLemmas
 pub mod OwedLemmas
 pub mod SentLemmas
+pub mod LogLemmas
 pub mod WorkLemmas
 pub mod CountLemmas
 pub mod PutLemmas

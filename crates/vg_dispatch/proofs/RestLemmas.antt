@@ -160,7 +160,7 @@ sent_weight (x ∷ xs) =
 
 -- at rest again
 pub rest_after : (s : Setting) (slots : ℕ) (lossless : Bool) (packets bytes came own left n drawn weight new_left : ℕ) (arrivals : List Arrival) (old new : Work) (old_cache new_cache : CacheBook) (old_put new_put : List (List HandoffFrame)) → IsSetting s
-    → IsAtRest packets bytes came own left old → length arrivals ≡ n → arrival_bytes arrivals ≤ weight → drawn ≤ own → came + n + (own - drawn) ≤ 4 * packets → vec_len old.fates + n + (own - drawn) ≤ packets
+    → IsAtRest packets bytes came own left old → length arrivals ≡ n → arrival_bytes arrivals ≤ weight → drawn ≤ own → came + n + (own - drawn) ≤ 4 * packets → length old.fates.items + n + (own - drawn) ≤ packets
     → vec_len old.bytes + weight + new_left ≤ bytes → IsOver s slots lossless arrivals old old_cache old_put new new_cache new_put → IsAtRest packets bytes (came + n) (own - drawn) new_left new
 rest_after s slots lossless packets bytes came own left n drawn weight new_left arrivals old new old_cache new_cache old_put new_put ok rest size heavy part came_few within fits over =
     let a = over.advances in
@@ -216,7 +216,7 @@ rest_after s slots lossless packets bytes came own left n drawn weight new_left 
     }
 
 -- at rest there is room for packets that come
-pub ready_of : (packets bytes came own left : ℕ) (arrivals : List Arrival) (w : Work) (cache : CacheBook) → IsAtRest packets bytes came own left w → length arrivals ≤ 2304 → vec_len w.fates + length arrivals ≤ packets → vec_len w.bytes + arrival_bytes arrivals ≤ bytes
+pub ready_of : (packets bytes came own left : ℕ) (arrivals : List Arrival) (w : Work) (cache : CacheBook) → IsAtRest packets bytes came own left w → length arrivals ≤ 2304 → length w.fates.items + length arrivals ≤ packets → vec_len w.bytes + arrival_bytes arrivals ≤ bytes
     → sum_by is_drawn arrivals ≤ cache.len → cache.len + length arrivals ≤ most_cached + sum_by is_drawn arrivals → cache.allocated < 2 ^ 61 → cache.freed < 2 ^ 61 → IsReady arrivals w cache
 ready_of packets bytes came own left arrivals w cache rest few within fits buffers cached allocated freed =
     let few_packets = rest.few in
@@ -355,7 +355,7 @@ empty_len v none = v.ok.0 ∙ ap length none
 
 pub rest_of_new : (packets bytes own left traced : ℕ) (w : Work) → IsNew packets bytes traced w → packets ≤ 65536 → own ≤ packets → left ≤ bytes → IsAtRest packets bytes 0 own left w
 rest_of_new packets bytes own left traced w new few some fits =
-    let fates = empty_len w.fates new.fates in
+    let fates = ap length new.fates in
     let entries = empty_len w.entries new.entries in
     let no_bytes = empty_len w.bytes new.bytes in
     record {

@@ -96,7 +96,7 @@ draws_weight workers mark limit (suc many) (p ∷ ps) some within all =
 -- there is room for the packets that come in a round
 pub ready_in_round : (packets bytes came own left workers mark limit tried many most took_count took_bytes : ℕ) (took : List Arrival) (items : List Captured) (w : Work) (cache : CacheBook) → IsAtRest packets bytes came own left w → 0 < workers → tried ≤ 7 → most ≤ 256
     → limit ≤ length items → many ≤ most → AreBelow workers mark limit many → own ≡ length (own_from workers mark items) → left ≡ captured_bytes (own_from workers mark items)
-    → length took ≡ took_count → arrival_bytes took ≡ took_bytes → sum_by is_drawn took ≡ 0 → took_count ≤ 256 * tried → vec_len w.fates + took_count + own ≤ packets → vec_len w.bytes + took_bytes + left ≤ bytes → most ≤ cache.len → cache.len + 256 * tried ≤ most_cached
+    → length took ≡ took_count → arrival_bytes took ≡ took_bytes → sum_by is_drawn took ≡ 0 → took_count ≤ 256 * tried → length w.fates.items + took_count + own ≤ packets → vec_len w.bytes + took_bytes + left ≤ bytes → most ≤ cache.len → cache.len + 256 * tried ≤ most_cached
     → cache.allocated < 2 ^ 61 → cache.freed < 2 ^ 61 → IsReady (took ++ next_draws workers mark many (frames_of items)) w cache
 ready_in_round packets bytes came own left workers mark limit tried many most took_count took_bytes took items w cache rest some few burst within so_many below own_is left_is count weight none tries fates fits buffers cached allocated freed =
     let draws = draws_length workers mark many (frames_of items) in
@@ -320,7 +320,7 @@ pub record IsRound (visit : Visit) (lossless : Bool) (plan : Planned) (capture :
   pub count_is : length (taken_arrivals number took) ≡ came_count
   pub bytes_is : arrival_bytes (taken_arrivals number took) ≡ came_bytes
   pub within : taken + came_count ≤ 3 * length capture.packets
-  pub fates : vec_len work.fates + came_count + own ≤ length capture.packets
+  pub fates : length work.fates.items + came_count + own ≤ length capture.packets
   pub bytes_most : vec_len work.bytes + came_bytes + left ≤ captured_bytes capture.packets
   pub most_burst : most ≤ options.burst
   pub many_most : many ≤ most

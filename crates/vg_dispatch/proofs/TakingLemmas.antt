@@ -150,18 +150,18 @@ pub record IsTaking (s : Setting) (bounds : Bounds) (tried : ℕ) (old : Work) (
   pub one : AllByRecursion (λ (frames : List HandoffFrame). length frames ≤ 1) took
   pub may : AllByRecursion (AllByRecursion (MayTake s.graph s.generation)) took
   pub taken : AreTaken queues new_queues took
-  pub tries : AreTried (MayComeNext s bounds (vec_len old.fates) (vec_len old.bytes)) 0 0 queues new_queues took
+  pub tries : AreTried (MayComeNext s bounds (length old.fates.items) (vec_len old.bytes)) 0 0 queues new_queues took
   pub entered : (cache : CacheBook) → IsSmall tried cache → IsEntered s (taken_arrivals s.worker took) old cache new cache
   pub count_is : length (taken_arrivals s.worker took) ≡ came.count
   pub bytes_is : arrival_bytes (taken_arrivals s.worker took) ≡ came.bytes
   pub few : came.count ≤ 256 * k
   pub within : bounds.taken + came.count ≤ 3 * bounds.packets
-  pub fates : vec_len old.fates + came.count + bounds.own ≤ bounds.packets
+  pub fates : length old.fates.items + came.count + bounds.own ≤ bounds.packets
   pub bytes_most : vec_len old.bytes + came.bytes + bounds.left ≤ bounds.bytes
 
 -- there is room for packets of frames
 pub taken_ready : (packets bytes came own left tried : ℕ) (arrivals : List Arrival) (w : Work) (cache : CacheBook) → IsAtRest packets bytes came own left w → tried ≤ 7 → length arrivals ≤ 256 * tried → sum_by is_drawn arrivals ≡ 0
-    → vec_len w.fates + length arrivals + own ≤ packets → vec_len w.bytes + arrival_bytes arrivals + left ≤ bytes → IsSmall tried cache → IsReady arrivals w cache
+    → length w.fates.items + length arrivals + own ≤ packets → vec_len w.bytes + arrival_bytes arrivals + left ≤ bytes → IsSmall tried cache → IsReady arrivals w cache
 taken_ready packets bytes came own left tried arrivals w cache rest few many none within fits small =
     let len = small.len in
     ready_of packets bytes came own left arrivals w cache rest (omega (arith, few, many)) (omega (arith, within)) (omega (arith, fits)) (omega (arith, none)) (omega (arith, len, many, none)) small.allocated small.freed
@@ -191,10 +191,10 @@ all_push P [] x all one = (one, tt)
 all_push P (y ∷ ys) x all one = (all.0, all_push P ys x all.1 one)
 
 tries_more : (s : Setting) (bounds : Bounds) (tried : ℕ) (old : Work) (queues : List Queue) (k : ℕ) (new : Work) (new_queues : List Queue) (came : Came) (queue d : Queue) (frames : List HandoffFrame) → k < length queues
-    → Tries (MayComeNext s bounds (vec_len old.fates) (vec_len old.bytes) came.count came.bytes) (intake_of (get_or new_queues k d)) frames (intake_of queue)
-    → (t : IsTaking s bounds tried old queues k new new_queues came) → AreTried (MayComeNext s bounds (vec_len old.fates) (vec_len old.bytes)) 0 0 queues (set new_queues k queue) (t.took ++ frames ∷ [])
+    → Tries (MayComeNext s bounds (length old.fates.items) (vec_len old.bytes) came.count came.bytes) (intake_of (get_or new_queues k d)) frames (intake_of queue)
+    → (t : IsTaking s bounds tried old queues k new new_queues came) → AreTried (MayComeNext s bounds (length old.fates.items) (vec_len old.bytes)) 0 0 queues (set new_queues k queue) (t.took ++ frames ∷ [])
 tries_more s bounds tried old queues k new new_queues came queue d frames inside tries t =
-    let may : (packets bytes : ℕ) → HandoffFrame → Type 0 = MayComeNext s bounds (vec_len old.fates) (vec_len old.bytes) in
+    let may : (packets bytes : ℕ) → HandoffFrame → Type 0 = MayComeNext s bounds (length old.fates.items) (vec_len old.bytes) in
     let n = t.size in
     let count = taken_packets s.worker t.took in let weight = taken_bytes s.worker t.took in
     let count_is = t.count_is in let bytes_is = t.bytes_is in
@@ -206,7 +206,7 @@ tries_more s bounds tried old queues k new new_queues came queue d frames inside
 
 -- nothing is taken from the next queue
 pub taking_pass : (s : Setting) (bounds : Bounds) (tried : ℕ) (old : Work) (queues : List Queue) (k : ℕ) (new : Work) (new_queues : List Queue) (came : Came) (queue d : Queue) → k < length queues → queue.ring ≡ (get_or new_queues k d).ring → queue.taken ≡ (get_or new_queues k d).taken
-    → Tries (MayComeNext s bounds (vec_len old.fates) (vec_len old.bytes) came.count came.bytes) (intake_of (get_or new_queues k d)) [] (intake_of queue)
+    → Tries (MayComeNext s bounds (length old.fates.items) (vec_len old.bytes) came.count came.bytes) (intake_of (get_or new_queues k d)) [] (intake_of queue)
     → IsTaking s bounds tried old queues k new new_queues came → IsTaking s bounds tried old queues (k + 1) new (set new_queues k queue) came
 taking_pass s bounds tried old queues k new new_queues came queue d inside ring same tries t = record {
   took = t.took ++ [] ∷ [];
@@ -227,7 +227,7 @@ taking_pass s bounds tried old queues k new new_queues came queue d inside ring 
 }
 
 pub taking_ready : (s : Setting) (bounds : Bounds) (tried came_before : ℕ) (old : Work) (queues : List Queue) (k : ℕ) (new : Work) (new_queues : List Queue) (came : Came) (frame : HandoffFrame) (cache : CacheBook) → tried ≤ 7 → k < tried
-    → IsAtRest bounds.packets bounds.bytes came_before bounds.own bounds.left old → IsHandFrame frame → IsWithinLog bounds came (vec_len old.fates) (vec_len old.bytes) frame → IsSmall tried cache
+    → IsAtRest bounds.packets bounds.bytes came_before bounds.own bounds.left old → IsHandFrame frame → IsWithinLog bounds came (length old.fates.items) (vec_len old.bytes) frame → IsSmall tried cache
     → (t : IsTaking s bounds tried old queues k new new_queues came) → IsReady (taken_arrivals s.worker t.took ++ frame_arrivals s.worker frame) old cache
 taking_ready s bounds tried came_before old queues k new new_queues came frame cache few inside rest kept within small t =
     let so_far : List Arrival = taken_arrivals s.worker t.took in
@@ -241,7 +241,7 @@ taking_ready s bounds tried came_before old queues k new new_queues came frame c
 
 -- the frames taken so far are under way
 abbrev pub underway_taken : (s : Setting) (bounds : Bounds) (tried came_before : ℕ) (old : Work) (queues : List Queue) (k : ℕ) (new : Work) (new_queues : List Queue) (came : Came) (frame : HandoffFrame) (cache : CacheBook) → tried ≤ 7 → k < tried
-    → IsAtRest bounds.packets bounds.bytes came_before bounds.own bounds.left old → IsHandFrame frame → IsWithinLog bounds came (vec_len old.fates) (vec_len old.bytes) frame → IsSmall tried cache
+    → IsAtRest bounds.packets bounds.bytes came_before bounds.own bounds.left old → IsHandFrame frame → IsWithinLog bounds came (length old.fates.items) (vec_len old.bytes) frame → IsSmall tried cache
     → (t : IsTaking s bounds tried old queues k new new_queues came) → IsUnderway s (frame_arrivals s.worker frame) new cache
 underway_taken s bounds tried came_before old queues k new new_queues came frame cache few inside rest kept within small t = record {
   before = taken_arrivals s.worker t.took;
@@ -253,7 +253,7 @@ underway_taken s bounds tried came_before old queues k new new_queues came frame
 
 -- the next queue's frame is taken
 pub taking_more : (s : Setting) (bounds : Bounds) (tried : ℕ) (old : Work) (queues : List Queue) (k : ℕ) (w new : Work) (new_queues : List Queue) (came more : Came) (queue d : Queue) (frame : HandoffFrame) → k < length queues → queue.ring ≡ (get_or new_queues k d).ring
-    → queue.taken ≡ (get_or new_queues k d).taken ++ frame ∷ [] → MayTake s.graph s.generation frame → IsWithinLog bounds came (vec_len old.fates) (vec_len old.bytes) frame → more.count ≡ came.count + length frame.packets → more.bytes ≡ came.bytes + frame_bytes frame
+    → queue.taken ≡ (get_or new_queues k d).taken ++ frame ∷ [] → MayTake s.graph s.generation frame → IsWithinLog bounds came (length old.fates.items) (vec_len old.bytes) frame → more.count ≡ came.count + length frame.packets → more.bytes ≡ came.bytes + frame_bytes frame
     → Comes (get_or new_queues k d).waits (get_or new_queues k d).taken (get_or new_queues k d).trail frame queue.trail → queue.waits ≡ None
     → (t : IsTaking s bounds tried old queues k w new_queues came) → ((cache : CacheBook) → IsSmall tried cache → IsEntered s (taken_arrivals s.worker t.took ++ frame_arrivals s.worker frame) old cache new cache)
     → IsTaking s bounds tried old queues (k + 1) new (set new_queues k queue) more

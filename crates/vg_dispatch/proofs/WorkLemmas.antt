@@ -127,10 +127,9 @@ unfolding total
 total_of s t w ended = refl
 
 -- what is kept grows by a fate for each that is logged
-pub fates_grow : (s : Setting) (node : ℕ) (arrivals : List Arrival) (settled : List Settled) (old new : Work) (h1 h2 : List (ℕ × Step)) → Advances s node arrivals settled old h1 new h2 → vec_len new.fates ≡ vec_len old.fates + logged_count settled
+pub fates_grow : (s : Setting) (node : ℕ) (arrivals : List Arrival) (settled : List Settled) (old new : Work) (h1 h2 : List (ℕ × Step)) → Advances s node arrivals settled old h1 new h2 → length new.fates.items ≡ length old.fates.items + logged_count settled
 fates_grow s node arrivals settled old new h1 h2 a =
-    new.fates.ok.0 ∙ ap length a.fates ∙ length-append old.fates.items (filter_map settled_log settled)
-    ∙ (let e1 = old.fates.ok.0 in omega (arith, e1))
+    ap length a.fates ∙ length-append old.fates.items (filter_map settled_log settled)
 
 -- there is room as there was
 pub room_kept : (s : Setting) (node : ℕ) (settled : List Settled) (old new : Work) (h1 h2 : List (ℕ × Step)) → HasRoom s node old h1 → Advances s node [] settled old h1 new h2 → HasRoom s node new h2

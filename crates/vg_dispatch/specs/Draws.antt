@@ -48,7 +48,7 @@ pub record CanDraw (w : Work) (cache : CacheBook) : Type 0 where
   pub buffers : (0 < cache.len) × (cache.len ≤ most_cached)
   pub allocated : cache.allocated < 2 ^ 62
   pub freed : cache.freed < 2 ^ 62
-  pub fates : vec_len w.fates < vec_capacity w.fates
+  pub fates : length w.fates.items < w.fates.room
   pub counts : CanCount (Dropped pg_input TooLong) (with_source w.counts)
   pub enter : CanEnter pg_input w
 
@@ -59,7 +59,7 @@ too_long number leg = record { number = number; legs = leg ∷ []; congested = N
 -- a packet that is too long is dropped as it is drawn, and its buffer is given back
 pub record DrawsLong (leg : Leg) (number : ℕ) (old new : Work) (old_cache new_cache : CacheBook) : Type 0 where
   pub fates : new.fates.items ≡ old.fates.items ++ too_long number leg ∷ []
-  pub room : vec_capacity new.fates ≡ vec_capacity old.fates
+  pub room : new.fates.room ≡ old.fates.room
   pub rest : new ≡ record old {
     fates = new.fates;
     counts = counted_end (Dropped pg_input TooLong) (with_source old.counts);
@@ -119,7 +119,7 @@ pub record IsReady (arrivals : List Arrival) (w : Work) (cache : CacheBook) : Ty
   pub whole : IsWhole w.counts
   pub within : AreWithin w.entries.items w.bytes.items
   pub few : length arrivals ≤ most_arrivals
-  pub fates : vec_len w.fates + length arrivals ≤ vec_capacity w.fates
+  pub fates : length w.fates.items + length arrivals ≤ w.fates.room
   pub entries_room : vec_len w.entries + length arrivals ≤ vec_capacity w.entries
   pub bytes : vec_len w.bytes + arrival_bytes arrivals ≤ vec_capacity w.bytes
   pub can_visit : (node : ℕ) → slice_index w.counts.visits node + most_visits * length arrivals < 2 ^ 61

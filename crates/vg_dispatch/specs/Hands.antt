@@ -33,7 +33,7 @@ HasFewLegs memory index = IsLive memory index → length (contents_at memory ind
 -- all that it takes to drop a packet that a queue refused
 pub record CanRefuse (node : ℕ) (c : Contents) (w : Work) (cache : CacheBook) : Type 0 where
   pub legs : (1 ≤ length c.legs) × (length c.legs ≤ 4)
-  pub fates : vec_len w.fates < vec_capacity w.fates
+  pub fates : length w.fates.items < w.fates.room
   pub counts : CanCount (Dropped node Congestion) w.counts
   pub len : cache.len < most_cached
   pub freed : cache.freed < 2 ^ 62
@@ -45,7 +45,7 @@ refusal node accepted c = record { number = c.packet.number; legs = c.legs; cong
 -- it is dropped
 pub record Refuses (node accepted : ℕ) (c : Contents) (old new : Work) : Type 0 where
   pub fates : new.fates.items ≡ old.fates.items ++ refusal node accepted c ∷ []
-  pub room : vec_capacity new.fates ≡ vec_capacity old.fates
+  pub room : new.fates.room ≡ old.fates.room
   pub rest : new ≡ record old {
     fates = new.fates;
     counts = counted_end (Dropped node Congestion) old.counts;

@@ -24,9 +24,9 @@ pub record IsAtRest (packets bytes came own left : ℕ) (w : Work) : Type 0 wher
   pub within : AreWithin w.entries.items w.bytes.items
   pub few : packets ≤ 65536
   pub came_few : came + own ≤ 4 * packets
-  pub logged : vec_len w.fates + own ≤ packets
-  pub listed : vec_len w.entries ≤ vec_len w.fates
-  pub fates : packets ≤ vec_capacity w.fates
+  pub logged : length w.fates.items + own ≤ packets
+  pub listed : vec_len w.entries ≤ length w.fates.items
+  pub fates : packets ≤ w.fates.room
   pub entries : packets ≤ vec_capacity w.entries
   pub kept : vec_len w.bytes + left ≤ bytes
   pub bytes_room : bytes ≤ vec_capacity w.bytes
@@ -42,7 +42,7 @@ pub record IsNew (most_packets most_bytes traced : ℕ) (w : Work) : Type 0 wher
   pub memory : w.memory ≡ []
   pub pending : w.pending ≡ replicate most_nodes []
   pub fates : w.fates.items ≡ []
-  pub fates_room : most_packets ≤ vec_capacity w.fates
+  pub fates_room : most_packets ≤ w.fates.room
   pub entries : w.entries.items ≡ []
   pub entries_room : most_packets ≤ vec_capacity w.entries
   pub bytes : w.bytes.items ≡ []

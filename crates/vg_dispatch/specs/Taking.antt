@@ -59,11 +59,11 @@ pub record TakesFrames (s : Setting) (bounds : Bounds) (tried : ℕ) (old : Work
   pub one : AllByRecursion (λ (frames : List HandoffFrame). length frames ≤ 1) took
   pub may : AllByRecursion (AllByRecursion (MayTake s.graph s.generation)) took
   pub taken : AreTaken queues new_queues took
-  pub tries : AreTried (MayComeNext s bounds (vec_len old.fates) (vec_len old.bytes)) 0 0 queues new_queues took
+  pub tries : AreTried (MayComeNext s bounds (length old.fates.items) (vec_len old.bytes)) 0 0 queues new_queues took
   pub entered : (cache : CacheBook) → IsSmall tried cache → IsEntered s (taken_arrivals s.worker took) old cache new cache
   pub count_is : length (taken_arrivals s.worker took) ≡ came.count
   pub bytes_is : arrival_bytes (taken_arrivals s.worker took) ≡ came.bytes
   pub few : came.count ≤ 256 * length took
   pub within : bounds.taken + came.count ≤ 3 * bounds.packets
-  pub fates : vec_len old.fates + came.count + bounds.own ≤ bounds.packets
+  pub fates : length old.fates.items + came.count + bounds.own ≤ bounds.packets
   pub bytes_most : vec_len old.bytes + came.bytes + bounds.left ≤ bounds.bytes

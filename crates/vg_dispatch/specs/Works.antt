@@ -112,7 +112,7 @@ visits_left s w = waiting s by_all_visits w.memory w.pending
 
 -- there is room for all that is still to come
 pub record HasRoom (s : Setting) (node : ℕ) (w : Work) (hand : List (ℕ × Step)) : Type 0 where
-  pub fates : vec_len w.fates + count w.memory ≤ vec_capacity w.fates
+  pub fates : length w.fates.items + count w.memory ≤ w.fates.room
   pub entries : vec_len w.entries + count w.memory ≤ vec_capacity w.entries
   pub bytes : vec_len w.bytes + (waiting s by_bytes w.memory w.pending + in_hand s by_bytes node w.memory hand) ≤ vec_capacity w.bytes
   pub visits : (n : ℕ) → total s (by_visits n) w [] + in_hand s (by_visits n) node w.memory hand + count w.memory < 2 ^ 62
@@ -156,7 +156,7 @@ pub record Advances (s : Setting) (node : ℕ) (arrivals : List Arrival) (settle
   pub sent : sent_by new.entries.items new.bytes.items ≡ sent_by old.entries.items old.bytes.items ++ filter_map settled_sent settled
   pub entries_most : vec_len new.entries ≤ vec_len old.entries + length settled
   pub bytes : vec_len new.bytes ≡ vec_len old.bytes + sum_by sent_len (ends_of settled)
-  pub room : (vec_capacity old.fates ≤ vec_capacity new.fates) × (vec_capacity old.entries ≤ vec_capacity new.entries) × (vec_capacity old.bytes ≤ vec_capacity new.bytes)
+  pub room : (old.fates.room ≤ new.fates.room) × (vec_capacity old.entries ≤ vec_capacity new.entries) × (vec_capacity old.bytes ≤ vec_capacity new.bytes)
   pub size : IsSameSize old.counts new.counts
   pub visited : visits_in_all old.counts + refused_visits (λ n. 1) settled ≤ visits_in_all new.counts
   pub drops : (n : ℕ) (error : DropError) → drops_at n (error_number error) new.counts.drops
@@ -218,7 +218,7 @@ settled_with end c = record { ended = ended_with end c; refused = None }
 pub record CanFinish (index : ℕ) (end : End) (w : Work) (cache : CacheBook) : Type 0 where
   pub live : IsLive w.memory index
   pub legs : (1 ≤ length (contents_at w.memory index).legs) × (length (contents_at w.memory index).legs ≤ 4)
-  pub fates : vec_len w.fates < vec_capacity w.fates
+  pub fates : length w.fates.items < w.fates.room
   pub entries : vec_len w.entries < vec_capacity w.entries
   pub bytes : vec_len w.bytes + sent_len (ended_with end (contents_at w.memory index)) ≤ vec_capacity w.bytes
   pub within : AreWithin w.entries.items w.bytes.items
@@ -236,7 +236,7 @@ pub record Finishes (index : ℕ) (end : End) (old new : Work) : Type 0 where
       ≡ sent_by old.entries.items old.bytes.items ++ option_to_list (sent_of (ended_with end (contents_at old.memory index)))
   pub entries : vec_len new.entries ≤ vec_len old.entries + 1
   pub bytes : vec_len new.bytes ≡ vec_len old.bytes + sent_len (ended_with end (contents_at old.memory index))
-  pub room : (vec_capacity old.fates ≤ vec_capacity new.fates) × (vec_capacity old.entries ≤ vec_capacity new.entries) × (vec_capacity old.bytes ≤ vec_capacity new.bytes)
+  pub room : (old.fates.room ≤ new.fates.room) × (vec_capacity old.entries ≤ vec_capacity new.entries) × (vec_capacity old.bytes ≤ vec_capacity new.bytes)
   pub within : AreWithin new.entries.items new.bytes.items
   pub counts : new.counts ≡ counted_end end old.counts
   pub trace : new.trace ≡ noted_end (contents_at old.memory index).packet.number (leg_place (contents_at old.memory index)) end old.trace

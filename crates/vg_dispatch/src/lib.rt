@@ -16,6 +16,7 @@ mod gating;
 mod incoming;
 pub mod inputs;
 pub mod links;
+pub mod logs;
 mod making;
 pub mod options;
 pub mod parcels;
@@ -30,6 +31,7 @@ pub mod workers;
 
 pub use inputs::Input;
 pub use links::{Links, Refused, WorkerLinks};
+pub use logs::FateList;
 pub use options::Options;
 pub use parcels::{Stop, WorkerParcel};
 pub use sent::SentList;

@@ -39,6 +39,7 @@ impl<H: Handoff<HandFrame>> Rooms<H> {
         bytes: usize,
         traced: u32,
     ) -> Result<Rooms<H>, Memory>
+        requires few { packets ≤ 65536 }
         ensures work { IfOk result (λ rooms. IsNew packets bytes traced rooms.work) }
         ensures sorted { IfOk result (λ rooms. rooms.sorted ≡ nothing_sorted) }
         ensures groups { IfOk result (λ rooms. rooms.groups.items ≡ replicate workers []) }

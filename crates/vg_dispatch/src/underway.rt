@@ -15,6 +15,7 @@ ghost use Rattle.vg_nodes.specs.Sorting.{nothing_sorted};
 ghost use Rattle.vg_dispatch.specs.SentEntries.{AreWithin, sent_by};
 ghost use Rattle.vg_dispatch.specs.Underway.{stationed, leg_here, contents_at, IsSetting};
 
+use crate::logs::{FateLog, legs_of};
 use crate::peers::place_of;
 use crate::sent::SentEntry;
 use crate::stations::Station;
@@ -54,7 +55,7 @@ const RESUME: u8 = 0;
 pub struct Work {
     pub memory: BufferMemory,
     pub pending: FrameStore,
-    pub fates: Vec<Fate>,
+    pub fates: FateLog,
     pub entries: Vec<SentEntry>,
     pub bytes: Vec<u8>,
     pub counts: Counters,
@@ -67,18 +68,6 @@ pub struct Drew {
     pub count: u32,
     pub bytes: usize,
     pub mark: u64,
-}
-
-// The legs of a packet, for its fate.
-fn legs_of(legs: &[Leg]) -> Legs
-    requires { length legs.now ≤ 4 }
-    ensures { result ≡ legs.now }
-{
-    let mut copy = Legs::new();
-    for leg in legs {
-        copy.push(*leg);
-    }
-    copy
 }
 
 impl Work {
@@ -95,11 +84,10 @@ impl Work {
 
     // Nothing under way or kept, and room for the fates of so many packets and for so many bytes, and for the visits of so many.
     pub fn new(alloc: Global, packets: usize, bytes: usize, traced: u32) -> Result<Work, Memory>
+        requires few { packets ≤ 65536 }
         ensures { IfOk result (IsNew packets bytes traced) }
     {
-        let Ok(fates) = Vec::with_capacity(alloc, packets) else {
-            return Err(Memory);
-        };
+        let fates = FateLog::new(alloc, packets)?;
         let Ok(entries) = Vec::with_capacity(alloc, packets) else {
             return Err(Memory);
         };
@@ -120,10 +108,10 @@ impl Work {
     // Logs the end of a packet, and counts it. A drop at another node brings a visit of `error-drop`.
     fn log(&mut self, number: u32, legs: Legs, congested: Option<u64>, end: End)
         requires legs { (1 ≤ length legs) × (length legs ≤ 4) }
-        requires room { vec_len self.old.fates < vec_capacity self.old.fates }
+        requires room { length self.old.fates.items < self.old.fates.room }
         requires counts { CanCount end self.old.counts }
         ensures fates { self.new.fates.items ≡ self.old.fates.items ++ (record { number = number; legs = legs; congested = congested; end = end }) ∷ [] }
-        ensures room { vec_capacity self.new.fates ≡ vec_capacity self.old.fates }
+        ensures room { self.new.fates.room ≡ self.old.fates.room }
         ensures rest { self.new ≡ record self.old {
           fates = self.new.fates;
           counts = counted_end end self.old.counts;
@@ -141,7 +129,7 @@ impl Work {
                 }
             }
         }
-        self.fates.push_reserved(Fate {
+        self.fates.push(Fate {
             number,
             legs,
             congested,

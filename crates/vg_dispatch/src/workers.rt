@@ -21,6 +21,7 @@ use crate::gating::{may_draw, may_go, refill_for, tick_all, where_goes};
 use crate::incoming::Incoming;
 use crate::inputs::Input;
 use crate::links::{Refused, WorkerLinks};
+use crate::logs::FateList;
 use crate::making::{Rooms, counting_of, own_of, queues_of, total_bytes};
 use crate::options::Options;
 use crate::parcels::{Stop, WorkerParcel};
@@ -40,7 +41,7 @@ use vg_counters::{Counters, Trace};
 use vg_fork::Fork;
 use vg_frame::Frame;
 use vg_hands::{HandFrame, Handoff};
-use vg_model::{Fates, Leg};
+use vg_model::Leg;
 use vg_nodes::{KindSet, Sorted};
 use vg_outside::Gate;
 use vg_pool::{Cache, LockedPool, PoolLedger};
@@ -87,7 +88,7 @@ pub struct Worker<K: KindSet, H: Handoff<HandFrame>, T: PoolLedger, L: Ledger> {
 #[derive(Drop)]
 pub struct WorkerEnd<T: Ledger, L: Ledger> {
     /// What became of packets, in the order in which they ended.
-    pub log: Fates,
+    pub log: FateList,
     /// The packets that were transmitted, in the order in which they were.
     pub sent: SentList,
     /// Counts by node, error and interface.
@@ -462,7 +463,7 @@ impl<K: KindSet, H: Handoff<HandFrame>, T: PoolLedger, L: Ledger> Worker<K, H, T
             trace,
         } = work;
         WorkerEnd {
-            log: Fates::from_vec(fates),
+            log: fates.into_list(),
             sent: SentList::new(entries, bytes),
             counters: counts,
             trace,

@@ -37,14 +37,3 @@ pub number_there : (sent : List (ℕ × List ℕ)) (k number : ℕ) (bytes : Lis
 number_there sent k number bytes inside found =
     get_or-map (λ (packet : ℕ × List ℕ). packet.0) sent k (number, bytes) 0 inside
     ∙ ap (λ (packet : ℕ × List ℕ). packet.0) (get_or_from_slice_get sent k (number, bytes) (number, bytes) found)
-
--- the first ones so far stand at the places of their numbers
-abbrev pub AreInPlace : {X : Type 0} → (number : X → ℕ) → ℕ → List X → Type 0
-AreInPlace {X} number n xs = (i : ℕ) (d : X) → i < n → number (get_or xs i d) ≡ i
-
--- those that all do are in order
-pub in_place_rise : {X : Type 0} (number : X → ℕ) (n : ℕ) (xs : List X) → AreInPlace number n xs → n ≡ length xs → IsNonDecreasingBy number xs
-in_place_rise number n xs in_place whole i j d order inside =
-    let first = in_place i d (omega (arith, whole, order, inside)) in
-    let last = in_place j d (omega (arith, whole, inside)) in
-    omega (arith, first, last, order)

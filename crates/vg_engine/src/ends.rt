@@ -8,9 +8,9 @@ use crate::lists::{push, room_for};
 use std::alloc::Global;
 use std::sync::ledger::Ledger;
 use vg_counters::{Counters, Trace};
-use vg_dispatch::{SentList, Worker, WorkerEnd};
+use vg_dispatch::{FateList, SentList, Worker, WorkerEnd};
 use vg_hands::{HandFrame, Handoff};
-use vg_model::{Fates, Memory};
+use vg_model::Memory;
 use vg_nodes::KindSet;
 use vg_pool::{Cache, PoolLedger};
 use vg_ring::{RingRx, RingTx};
@@ -18,7 +18,7 @@ use vg_ring::{RingRx, RingTx};
 /// What the workers have kept, by number.
 #[derive(Drop)]
 pub(crate) struct Ends<T: Ledger, L: Ledger> {
-    pub logs: Vec<Fates>,
+    pub logs: Vec<FateList>,
     pub sent: Vec<SentList>,
     pub counters: Vec<Counters>,
     pub traces: Vec<Trace>,

@@ -8,72 +8,25 @@ ghost use Rattle.vg_counters.specs.Notes.{AreOneLength, IsMerged};
 
 use std::alloc::Global;
 use vg_counters::{Counters, Trace, TraceLists, merge, total};
-use vg_dispatch::SentList;
-use vg_model::{Fate, Fates, Memory};
+use vg_dispatch::{FateList, SentList};
+use vg_model::Memory;
 
 /// What all workers have kept together.
 #[derive(Drop)]
 pub(crate) struct Gathered {
-    pub fates: Fates,
+    pub fates: FateList,
     pub sent: SentList,
     pub counts: Counters,
     pub trace: TraceLists,
 }
 
-// The fates of all lists, one list behind the other. It takes no memory where the first list has room for all.
-fn all_fates(alloc: Global, logs: Vec<Fates>) -> Result<Fates, Memory>
-    ensures { IfOk result (λ fates. fates ≡ flat_map (λ (log : List Fate). log) logs.items) }
-{
-    let mut logs = logs.into_iter();
-    let Some(first) = logs.next() else {
-        return Ok(Fates::from_vec(Vec::new(alloc)));
-    };
-    let mut fates = first.into_vec();
-    for log in logs {
-        let mut log = log.into_vec();
-        let Ok(()) = fates.append(&mut log) else {
-            return Err(Memory);
-        };
-    }
-    Ok(Fates::from_vec(fates))
-}
-
-// Puts each fate at the place of its number. Answers whether all stand there: they do where their numbers are those of the places.
-fn put_in_place(fates: &mut [Fate]) -> bool
-    ensures same { IsPermutation fates.old fates.new }
-    ensures rising { OnTrue result (IsNonDecreasingBy (λ fate. fate.number) fates.new) }
-{
-    let count = fates.len();
-    let mut placed = 0;
-    // Each pass finds one more fate at its place, or moves one there.
-    for _pass in 0..count.saturating_mul(2) {
-        if placed == count {
-            return true;
-        }
-        let number = fates[placed].number as usize;
-        if number == placed {
-            placed += 1;
-            continue;
-        }
-        if number < placed || number >= count {
-            return false;
-        }
-        fates.swap(placed, number);
-    }
-    placed == count
-}
-
-// The fates in the order of their numbers. Those of all packets of a capture aren't sorted: each goes to its place.
-fn by_number(fates: Fates) -> Fates
+// The fates of all lists in the order of their numbers.
+fn by_number(mut fates: FateList) -> FateList
     ensures same { IsPermutation fates result }
     ensures rising { IsNonDecreasingBy (λ fate. fate.number) result }
 {
-    let mut fates = fates.into_vec();
-    if put_in_place(fates.as_mut_slice()) {
-        return Fates::from_vec(fates);
-    }
-    fates.sort_unstable_by_key(|fate| fate.number);
-    Fates::from_vec(fates)
+    fates.sort();
+    fates
 }
 
 // Whether the packets sent stand in the order of their numbers.
@@ -111,7 +64,7 @@ fn sent_by_number(sent: SentList) -> SentList
 /// [`Memory`] where memory runs out.
 pub(crate) fn gather(
     alloc: Global,
-    logs: Vec<Fates>,
+    logs: Vec<FateList>,
     sent: Vec<SentList>,
     counters: &Vec<Counters>,
     traces: &Vec<Trace>,
@@ -126,7 +79,7 @@ pub(crate) fn gather(
     ensures counts { IfOk result (λ all. IsTotal counters.now.items all.counts) }
     ensures trace { IfOk result (λ all. IsMerged traces.now.items all.trace) }
 {
-    let fates = by_number(all_fates(alloc, logs)?);
+    let fates = by_number(FateList::joined(alloc, logs)?);
     let sent = sent_by_number(SentList::joined(alloc, sent)?);
     let counts = total(alloc, counters.as_slice())?;
     let trace = merge(alloc, traces.as_slice())?;

@@ -29,10 +29,10 @@ use std::sync::ledger::{Blank, Ledger};
 use vg_barrier::{Barrier, MainSeat};
 use vg_capture::Capture;
 use vg_counters::{Counters, TraceLists};
-use vg_dispatch::{Input, Links, SentList, Worker, WorkerParcel};
+use vg_dispatch::{FateList, Input, Links, SentList, Worker, WorkerParcel};
 use vg_graph::Graph;
 use vg_hands::{HandFrame, Handoff};
-use vg_model::{Fates, Memory};
+use vg_model::Memory;
 use vg_nodes::KindSet;
 use vg_outside::Gate;
 use vg_pool::{LockedPool, Pool, PoolLedger, Settled};
@@ -42,7 +42,7 @@ use vg_ring::Rest;
 #[derive(Drop)]
 pub struct Outcome {
     /// What became of the packets, by number.
-    pub fates: Fates,
+    pub fates: FateList,
     /// The packets that were transmitted, by number.
     pub sent: SentList,
     /// Counts by node, error and interface, for as many of them as a graph may have.
@@ -137,6 +137,11 @@ pub(crate) fn conclude<K: KindSet, H: Handoff<HandFrame>, T: PoolLedger, L: Ledg
     if !lead.is_ended() || !ended {
         return Err(Memory);
     }
+    // The pool first, so that what is put together has its memory.
+    let pool = pool.close(caches);
+    let Some(settled) = pool.end() else {
+        unreachable!()
+    };
     let Gathered {
         fates,
         sent,
@@ -144,10 +149,6 @@ pub(crate) fn conclude<K: KindSet, H: Handoff<HandFrame>, T: PoolLedger, L: Ledg
         trace,
     } = gather(alloc, logs, sent, &counters, &traces)?;
     let last = lead.master.graph().copy(alloc)?;
-    let pool = pool.close(caches);
-    let Some(settled) = pool.end() else {
-        unreachable!()
-    };
     Ok(Outcome {
         fates,
         sent,

@@ -142,16 +142,14 @@ fn is_expected(fate: &Fate, number: u32, expected: &Expected) -> bool {
 
 /// Whether the fates are those expected, by number.
 pub(crate) fn are_expected(outcome: &Outcome, all: &[Expected]) -> bool {
-    let fates = outcome.fates.as_slice();
+    let fates = &outcome.fates;
     if fates.len() != all.len() {
         return false;
     }
-    let mut number = 0_u32;
-    for (fate, expected) in fates.iter().zip(all) {
-        if !is_expected(fate, number, expected) {
+    for (k, expected) in all.iter().enumerate() {
+        if !is_expected(&fates.get(k), k as u32, expected) {
             return false;
         }
-        number = number.wrapping_add(1);
     }
     true
 }

@@ -189,15 +189,16 @@ fn have_same_packets(log: &Log, outcome: &Outcome, workers: u8) -> bool
     requires { 1 ≤ workers }
 {
     let fates = log.fates.as_slice();
-    let others = outcome.fates.as_slice();
+    let others = &outcome.fates;
     if fates.len() != others.len() || log.sent.len() != outcome.sent.len() {
         return false;
     }
-    for (fate, other) in fates.iter().zip(others) {
+    for (k, fate) in fates.iter().enumerate() {
+        let other = others.get(k);
         if fate.number != other.number
             || fate.end != other.end
             || fate.congested != other.congested
-            || !are_legs(other, workers)
+            || !are_legs(&other, workers)
         {
             return false;
         }
@@ -214,7 +215,8 @@ fn have_same_packets(log: &Log, outcome: &Outcome, workers: u8) -> bool
 /// How often packets were handed over.
 fn handed(outcome: &Outcome) -> u64 {
     let mut count: u64 = 0;
-    for fate in outcome.fates.as_slice() {
+    for k in 0..outcome.fates.len() {
+        let fate = outcome.fates.get(k);
         count = count.saturating_add(fate.legs.as_slice().len() as u64);
         count = count.saturating_sub(1);
     }

@@ -56,7 +56,7 @@ fn run_load<R: Wait + Threads + Sync, G: Gate>(
     };
     let outcome = run_workers(rt, alloc, &input, false, None, gate)?;
     Ok(Counts {
-        ended: outcome.fates.as_slice().len(),
+        ended: outcome.fates.len(),
         sent: outcome.sent.len(),
         buffers: outcome.settled.len(),
     })

@@ -10,9 +10,10 @@ ghost use Rattle.vgd.specs.Reports.{counted, made_of, made_by, all_made, line_of
 use crate::done::RunEnd;
 use std::alloc::{AllocError, Global};
 use vg_counters::{Counters, TraceLists};
+use vg_dispatch::FateList;
 use vg_engine::{Options, Outcome};
 use vg_graph::Graph;
-use vg_model::{DropError, Fates, Name};
+use vg_model::{DropError, Name};
 use vg_report::{ErrorCounts, NameCounts, Names, PacketLines, Report, TraceLines};
 
 /// The same name once more.
@@ -105,12 +106,15 @@ fn node_names(alloc: Global, graph: &Graph) -> Result<Vec<Name>, AllocError>
 }
 
 /// The lines of packets: their fates, and the names of where they end.
-fn lines(alloc: Global, graph: &Graph, fates: Fates) -> Result<PacketLines, AllocError>
+fn lines(alloc: Global, graph: &Graph, fates: FateList) -> Result<PacketLines, AllocError>
     requires { AllByRecursion (λ fate. IsEndIn graph.now fate.end) fates }
     ensures { IfOk result (λ lines. lines ≡ map (line_of_fate graph.now) fates) }
 {
     let interfaces = interface_names(alloc, graph)?;
     let nodes = node_names(alloc, graph)?;
+    let Ok(fates) = fates.into_fates(alloc) else {
+        return Err(AllocError);
+    };
     Ok(PacketLines::of_fates(alloc, fates, interfaces, nodes))
 }
 
@@ -158,7 +162,7 @@ pub fn report(
 {
     let Outcome {
         fates,
-        sent: _,
+        sent,
         counts,
         trace,
         buffers: _,
@@ -167,6 +171,8 @@ pub fn report(
         rests,
         seat,
     } = outcome;
+    // They were written; the fates take their memory.
+    drop(sent);
     let report = Report {
         workers: options.workers,
         buffers: settled.len(),

@@ -35,6 +35,9 @@ use vg_outside::{Folder, Gate};
 use vg_report::write_report;
 use vg_words::{Command, Run, read_words};
 
+// How many bytes a packet a list may have whose memory is kept: more than a log and a short packet, and less than a fate.
+const KEPT: usize = 64;
+
 /// What a run gives: the savefile, the text of its report, and its end.
 #[derive(Drop)]
 struct Results {
@@ -129,6 +132,7 @@ fn forward<R: Wait + Threads + Sync, G: Gate>(
         plan,
         turns,
     } = input;
+    keep_memory(alloc, capture.count());
     know_few(capture);
     let generations = plan.generations();
     let turns = turns.as_ref().map(|turns| turns.as_slice());
@@ -172,6 +176,13 @@ fn know_few(capture: &Capture)
     ensures { length capture.now.packets ≤ 65536 }
 {
     let _count = capture.packets.len();
+}
+
+/// Asks for memory for so many packets, and gives it back at once. From then on the C library keeps what lists up to that size give
+/// back, with its pages, for the lists that come after them.
+fn keep_memory(alloc: Global, packets: u32) {
+    let _given_back: Result<Vec<u8>, AllocError> =
+        Vec::with_capacity(alloc, (packets as usize).saturating_mul(KEPT));
 }
 
 /// Runs what the words ask for, up to the printing.

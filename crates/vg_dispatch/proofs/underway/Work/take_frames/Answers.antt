@@ -37,7 +37,7 @@ places-preserved-in_default g c =
     let inside : c.places.place < length c.args.inputs.now = (let test = c.places-test.true in let tried = c.requires.tried.0 in omega (arith, test, tried)) in
     taking_pass s c.args.bounds c.args.tried c.args.self.now c.args.inputs.now c.places.place c.places.self c.places.inputs c.places.came c.next_frame.new.self c.index-inputs-place.result inside c.next_frame.ensures.ring
     (ap (λ (q : Queue). q.taken) c.in_default.ensures.none.1)
-    (tries_nothing (MayComeNext s c.args.bounds (vec_len c.args.self.now.fates) (vec_len c.args.self.now.bytes) c.places.came.count c.places.came.bytes) (get_or c.places.inputs c.places.place c.index-inputs-place.result) c.next_frame.new.self
+    (tries_nothing (MayComeNext s c.args.bounds (length c.args.self.now.fates.items) (vec_len c.args.self.now.bytes) c.places.came.count c.places.came.bytes) (get_or c.places.inputs c.places.place c.index-inputs-place.result) c.next_frame.new.self
     c.in_default.ensures.none.0 c.in_default.ensures.none.1) c.places.invariant
 
 pub places-preserved-then-not-may_take : goal.places-preserved-then-not-may_take
@@ -46,19 +46,19 @@ places-preserved-then-not-may_take g c =
     let inside : c.places.place < length c.args.inputs.now = (let test = c.places-test.true in let tried = c.requires.tried.0 in omega (arith, test, tried)) in
     taking_pass s c.args.bounds c.args.tried c.args.self.now c.args.inputs.now c.places.place c.places.self c.places.inputs c.places.came c.put_back.new.self c.index-inputs-place.result inside (c.put_back.ensures.ring ∙ c.next_frame.ensures.ring)
     (append_cancel_right c.put_back.new.self.taken (get_or c.places.inputs c.places.place c.index-inputs-place.result).taken (c.in-Some.frame ∷ []) (c.put_back.ensures.taken ∙ ap (λ (q : Queue). q.taken) c.in-Some.ensures.some))
-    (tries_waits (MayComeNext s c.args.bounds (vec_len c.args.self.now.fates) (vec_len c.args.self.now.bytes) c.places.came.count c.places.came.bytes) (get_or c.places.inputs c.places.place c.index-inputs-place.result) c.put_back.new.self
+    (tries_waits (MayComeNext s c.args.bounds (length c.args.self.now.fates.items) (vec_len c.args.self.now.bytes) c.places.came.count c.places.came.bytes) (get_or c.places.inputs c.places.place c.index-inputs-place.result) c.put_back.new.self
     c.in-Some.frame c.next_frame.new.self.trail c.put_back.ensures.waits c.put_back.ensures.trail c.in-Some.ensures.comes c.may_take.ensures.kept (λ may. not_taken c.may_take.result c.if-not-may_take.true (c.may_take.ensures.may.1 (may.0, within may.1)))) c.places.invariant
   where
-    within : IsWithinLog c.args.bounds c.places.came (vec_len c.args.self.now.fates) (vec_len c.args.self.now.bytes) c.in-Some.frame → IsWithinLog c.args.bounds c.places.came c.len-logged.result c.len-kept.result c.in-Some.frame
+    within : IsWithinLog c.args.bounds c.places.came (length c.args.self.now.fates.items) (vec_len c.args.self.now.bytes) c.in-Some.frame → IsWithinLog c.args.bounds c.places.came c.len-logged.result c.len-kept.result c.in-Some.frame
     within is = subst (λ n. IsWithinLog c.args.bounds c.places.came n c.len-kept.result c.in-Some.frame) (sym c.len-logged.ensures)
-        (subst (λ n. IsWithinLog c.args.bounds c.places.came (vec_len c.args.self.now.fates) n c.in-Some.frame) (sym c.len-kept.ensures) is)
+        (subst (λ n. IsWithinLog c.args.bounds c.places.came (length c.args.self.now.fates.items) n c.in-Some.frame) (sym c.len-kept.ensures) is)
 
 pub take_frame-requires-clause-underway : goal.take_frame-requires-clause-underway
 take_frame-requires-clause-underway g c =
     let s : Setting = stationed g.K.KindSet.meaning c.args.fork.now.graph c.args.fork.now.generation c.args.station in
     let few = c.requires.tried.1 in
     let may : MayTake c.args.fork.now.graph c.args.fork.now.generation c.in-Some.frame = (c.may_take.ensures.may.0 c.if-not-may_take.false).0 in
-    let within : IsWithinLog c.args.bounds c.places.came (vec_len c.args.self.now.fates) (vec_len c.args.self.now.bytes) c.in-Some.frame =
+    let within : IsWithinLog c.args.bounds c.places.came (length c.args.self.now.fates.items) (vec_len c.args.self.now.bytes) c.in-Some.frame =
     subst (λ n. IsWithinLog c.args.bounds c.places.came n (vec_len c.args.self.now.bytes) c.in-Some.frame) c.len-logged.ensures
     (subst (λ n. IsWithinLog c.args.bounds c.places.came c.len-logged.result n c.in-Some.frame) c.len-kept.ensures (c.may_take.ensures.may.0 c.if-not-may_take.false).1) in
     let small : IsSmall c.args.tried empty_cache = record { len = omega (arith, few); allocated = omega arith; freed = omega arith } in (
@@ -71,7 +71,7 @@ places-preserved g c =
     let s : Setting = stationed g.K.KindSet.meaning c.args.fork.now.graph c.args.fork.now.generation c.args.station in
     let inside : c.places.place < length c.args.inputs.now = (let test = c.places-test.true in let tried = c.requires.tried.0 in omega (arith, test, tried)) in
     let may : MayTake c.args.fork.now.graph c.args.fork.now.generation c.in-Some.frame = (c.may_take.ensures.may.0 c.if-not-may_take.false).0 in
-    let within : IsWithinLog c.args.bounds c.places.came (vec_len c.args.self.now.fates) (vec_len c.args.self.now.bytes) c.in-Some.frame =
+    let within : IsWithinLog c.args.bounds c.places.came (length c.args.self.now.fates.items) (vec_len c.args.self.now.bytes) c.in-Some.frame =
     subst (λ n. IsWithinLog c.args.bounds c.places.came n (vec_len c.args.self.now.bytes) c.in-Some.frame) c.len-logged.ensures
     (subst (λ n. IsWithinLog c.args.bounds c.places.came c.len-logged.result n c.in-Some.frame) c.len-kept.ensures (c.may_take.ensures.may.0 c.if-not-may_take.false).1) in
     taking_more s c.args.bounds c.args.tried c.args.self.now c.args.inputs.now c.places.place c.places.self c.take_frame.new.self c.places.inputs c.places.came

@@ -357,7 +357,7 @@ returns-clause-round g c =
       tried_is = subst (λ i. MatchBool c.may_go-goes.result (c.where_goes-tried.result ≡ i) (c.where_goes-tried.result ≡ 0)) inputs_is c.where_goes-tried.ensures;
       took_size = c.take_frames-came.ensures.size;
       tries = subst (λ qs. AreTried (MayComeNext (stationed g.K.KindSet.meaning c.args.fork.now.graph c.args.fork.now.generation station)
-          (record { packets = c.self.inside.packets; bytes = c.self.inside.bytes; own = c.self.inside.own; left = c.self.inside.left; taken = c.self.inside.taken }) (vec_len c.self.inside.work.fates) (vec_len c.self.inside.work.bytes))
+          (record { packets = c.self.inside.packets; bytes = c.self.inside.bytes; own = c.self.inside.own; left = c.self.inside.left; taken = c.self.inside.taken }) (length c.self.inside.work.fates.items) (vec_len c.self.inside.work.bytes))
           0 0 qs c.take_frames-came.new.inputs c.take_frames-came.ensures.took) c.as_mut_slice-2.ensures.value c.take_frames-came.ensures.tries;
       taken_is = k.taken_is;
       sent_is = k.rest.sent_is;

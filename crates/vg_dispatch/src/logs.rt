@@ -1,0 +1,339 @@
+//! What became of packets, as workers log it.
+ghost use Rattle.std.specs.Prelude.{◌≡◌, ◌+◌, ◌<◌, ◌≤◌, ◌++◌, ◌∷◌, [], ℕ, List, IfOk, IfSome, flat_map, length, map, All, Some, slice_get};
+ghost use Rattle.std.specs.Bool.{OnTrue};
+ghost use Rattle.std.specs.List.{AllByRecursion};
+ghost use Rattle.std.specs.List.Sorted.{IsPermutation, IsNonDecreasingBy};
+ghost use Rattle.vg_model.specs.declared.fates.Fate.{Fate};
+ghost use Rattle.vg_dispatch.specs.Logs.{fate_in, fates_in, IsLogged, AreLogged, CanMove, moved_behind};
+
+use std::alloc::{AllocError, Global};
+use std::marker::Model;
+use vg_model::{End, Fate, Fates, Leg, Legs, Memory};
+
+/// A fate as it is logged: in itself where the packet had one leg and no queue refused it, and else the place of the fate among the
+/// others of its log.
+#[derive(Clone, Copy)]
+pub enum LogEntry {
+    Plain {
+        worker: u8,
+        end: End,
+        number: u32,
+        generation: u32,
+    },
+    Other {
+        place: u32,
+    },
+}
+
+/// The fates that a worker logs: those so far, and for how many there is room.
+#[derive(Drop)]
+pub struct FateLog {
+    entries: Vec<LogEntry>,
+    others: Vec<Fate>,
+    room: usize,
+}
+
+impl Model for FateLog {
+    ghost use Rattle.std.specs.Prelude.{◌≤◌, length, vec_capacity};
+    ghost use Rattle.vg_dispatch.specs.Logs.{LogBook, fates_in, AreLogged};
+
+    ghost Value = { LogBook };
+
+    ghost view = { λ l. record { items = fates_in l.others.items l.entries.items; room = l.room } };
+
+    ghost invariant = { λ l. AreLogged l.others.items l.entries.items × (length l.others.items ≤ length l.entries.items)
+        × (l.room ≤ 65536) × (l.room ≤ vec_capacity l.entries) × (l.room ≤ vec_capacity l.others) };
+}
+
+/// What became of packets. It is seen as the list of their fates.
+#[derive(Drop)]
+pub struct FateList {
+    entries: Vec<LogEntry>,
+    others: Vec<Fate>,
+}
+
+impl Model for FateList {
+    ghost use Rattle.std.specs.Prelude.{List};
+    ghost use Rattle.vg_model.specs.declared.fates.Fate.{Fate};
+    ghost use Rattle.vg_dispatch.specs.Logs.{fates_in, AreLogged};
+
+    ghost Value = { List Fate };
+
+    ghost view = { λ l. fates_in l.others.items l.entries.items };
+
+    ghost invariant = { λ l. AreLogged l.others.items l.entries.items };
+}
+
+// A fate as it is logged in itself, where it can be.
+fn plain(fate: &Fate) -> Option<LogEntry>
+    ensures { IfSome result (λ entry. (others : List Fate) → IsLogged (length others) entry × (fate_in others entry ≡ fate.now)) }
+{
+    let legs = fate.legs.as_slice();
+    if fate.congested.is_some() || legs.len() != 1 {
+        return None;
+    }
+    let Leg { worker, generation } = legs[0];
+    Some(LogEntry::Plain {
+        worker,
+        end: fate.end,
+        number: fate.number,
+        generation,
+    })
+}
+
+impl FateLog {
+    // No fates, and room for so many.
+    pub(crate) fn new(alloc: Global, room: usize) -> Result<FateLog, Memory>
+        requires { room ≤ 65536 }
+        ensures { IfOk result (λ log. log ≡ record { items = []; room = room }) }
+    {
+        let Ok(entries) = Vec::with_capacity(alloc, room) else {
+            return Err(Memory);
+        };
+        let Ok(others) = Vec::with_capacity(alloc, room) else {
+            return Err(Memory);
+        };
+        Ok(FateLog {
+            entries,
+            others,
+            room,
+        })
+    }
+
+    // How many fates were logged.
+    pub(crate) fn len(&self) -> usize
+        ensures { result ≡ length self.now.items }
+    {
+        self.entries.len()
+    }
+
+    // Logs a fate. It takes no memory.
+    pub(crate) fn push(&mut self, fate: Fate)
+        requires { length self.old.items < self.old.room }
+        ensures { self.new ≡ record self.old { items = self.old.items ++ fate ∷ [] } }
+    {
+        match plain(&fate) {
+            Some(entry) => self.entries.push_reserved(entry),
+            None => {
+                let place = self.others.len() as u32;
+                self.others.push_reserved(fate);
+                self.entries.push_reserved(LogEntry::Other { place });
+            }
+        }
+    }
+
+    // The fates that were logged.
+    pub(crate) fn into_list(self) -> FateList
+        ensures { result ≡ self.items }
+    {
+        let FateLog {
+            entries,
+            others,
+            room: _,
+        } = self;
+        FateList { entries, others }
+    }
+}
+
+// The number of a logged packet.
+fn number_of(others: &[Fate], entry: LogEntry) -> u32
+    ensures { result ≡ (fate_in others.now entry).number }
+{
+    match entry {
+        LogEntry::Plain { number, .. } => number,
+        LogEntry::Other { place } => match others.get(place as usize) {
+            Some(fate) => fate.number,
+            None => 0,
+        },
+    }
+}
+
+// Puts each fate at the place of its number. Answers whether all stand there: they do where their numbers are those of the places.
+fn put_in_place(entries: &mut [LogEntry], others: &[Fate]) -> bool
+    ensures same { IsPermutation entries.old entries.new }
+    ensures rising { OnTrue result (IsNonDecreasingBy (λ entry. (fate_in others.now entry).number) entries.new) }
+{
+    let count = entries.len();
+    let mut placed = 0;
+    // Each pass finds one more fate at its place, or moves one there.
+    for _pass in 0..count.saturating_mul(2) {
+        if placed == count {
+            return true;
+        }
+        let number = number_of(others, entries[placed]) as usize;
+        if number == placed {
+            placed += 1;
+            continue;
+        }
+        if number < placed || number >= count {
+            return false;
+        }
+        entries.swap(placed, number);
+    }
+    placed == count
+}
+
+/// The legs of a packet once more.
+pub(crate) fn legs_of(legs: &[Leg]) -> Legs
+    requires { length legs.now ≤ 4 }
+    ensures { result ≡ legs.now }
+{
+    let mut copy = Legs::new();
+    for leg in legs {
+        copy.push(*leg);
+    }
+    copy
+}
+
+// A fate of a log.
+fn fate_of(others: &[Fate], entry: LogEntry) -> Fate
+    requires { IsLogged (length others.now) entry }
+    ensures { result ≡ fate_in others.now entry }
+{
+    match entry {
+        LogEntry::Plain {
+            worker,
+            end,
+            number,
+            generation,
+        } => {
+            let mut legs = Legs::new();
+            legs.push(Leg { worker, generation });
+            Fate {
+                number,
+                legs,
+                congested: None,
+                end,
+            }
+        }
+        LogEntry::Other { place } => {
+            let fate = &others[place as usize];
+            Fate {
+                number: fate.number,
+                legs: legs_of(fate.legs.as_slice()),
+                congested: fate.congested,
+                end: fate.end,
+            }
+        }
+    }
+}
+
+// Entries, and behind them those of another log, whose others stand so many places further on.
+fn followed_by(
+    mut entries: Vec<LogEntry>,
+    more: Vec<LogEntry>,
+    places: u32,
+) -> Result<Vec<LogEntry>, AllocError>
+    requires { AllByRecursion (CanMove places) more.items }
+    ensures { IfOk result (λ all. all.items ≡ entries.items ++ map (moved_behind places) more.items) }
+{
+    for entry in more {
+        let entry = match entry {
+            LogEntry::Other { place } => LogEntry::Other {
+                place: place + places,
+            },
+            plain => plain,
+        };
+        entries.push(entry)?;
+    }
+    Ok(entries)
+}
+
+impl FateList {
+    /// The fates of all these lists, one list behind the other.
+    ///
+    /// # Errors
+    ///
+    /// [`Memory`] where memory runs out, or there are 2^32 fates or more. It takes none where there is one list.
+    pub fn joined(alloc: Global, lists: Vec<FateList>) -> Result<FateList, Memory>
+        ensures { IfOk result (λ fates. fates ≡ flat_map (λ (list : List Fate). list) lists.items) }
+    {
+        let mut lists = lists.into_iter();
+        let Some(mut fates) = lists.next() else {
+            return Ok(FateList {
+                entries: Vec::new(alloc),
+                others: Vec::new(alloc),
+            });
+        };
+        for list in lists {
+            fates = fates.with(list)?;
+        }
+        Ok(fates)
+    }
+
+    // Its fates, and behind them those of another list.
+    fn with(self, other: FateList) -> Result<FateList, Memory>
+        ensures { IfOk result (λ fates. fates ≡ self ++ other) }
+    {
+        let FateList {
+            entries,
+            mut others,
+        } = self;
+        let FateList {
+            entries: more,
+            others: mut more_others,
+        } = other;
+        let Ok(places) = u32::try_from(others.len()) else {
+            return Err(Memory);
+        };
+        if more_others.len() > (u32::MAX - places) as usize {
+            return Err(Memory);
+        }
+        let Ok(()) = others.append(&mut more_others) else {
+            return Err(Memory);
+        };
+        let Ok(entries) = followed_by(entries, more, places) else {
+            return Err(Memory);
+        };
+        Ok(FateList { entries, others })
+    }
+
+    /// How many fates there are.
+    pub fn len(&self) -> usize
+        ensures { result ≡ length self.now }
+    {
+        self.entries.len()
+    }
+
+    /// One of them, by its place in the list.
+    pub fn get(&self, k: usize) -> Fate
+        requires { k < length self.now }
+        ensures { slice_get self.now k ≡ Some result }
+    {
+        fate_of(self.others.as_slice(), self.entries[k])
+    }
+
+    /// Puts the fates in the order of their numbers. Those of all packets of a capture aren't sorted: each goes to its place.
+    pub fn sort(&mut self)
+        ensures same { IsPermutation self.old self.new }
+        ensures rising { IsNonDecreasingBy (λ fate. fate.number) self.new }
+    {
+        if put_in_place(self.entries.as_mut_slice(), self.others.as_slice()) {
+            return;
+        }
+        let others = self.others.as_slice();
+        self.entries
+            .sort_unstable_by_key(|entry| number_of(others, *entry));
+    }
+
+    /// The same fates, one behind the other in memory.
+    ///
+    /// # Errors
+    ///
+    /// [`Memory`] where memory runs out.
+    pub fn into_fates(self, alloc: Global) -> Result<Fates, Memory>
+        ensures { IfOk result (λ fates. fates ≡ self) }
+    {
+        let FateList { entries, others } = self;
+        let Ok(mut fates) = Vec::with_capacity(alloc, entries.len()) else {
+            return Err(Memory);
+        };
+        for k in 0..entries.len() {
+            let fate = fate_of(others.as_slice(), entries[k]);
+            let Ok(()) = fates.push(fate) else {
+                return Err(Memory);
+            };
+        }
+        Ok(Fates::from_vec(fates))
+    }
+}
