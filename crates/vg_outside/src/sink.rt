@@ -30,13 +30,14 @@ pub trait Sink {
 
     /// Appends a first part of these bytes, and answers how many: at least one where there is one.
     ///
-    /// After `Failed` nothing was appended, and the faults rose in this call. To take no byte of a piece
-    /// that has some is a failure too.
+    /// After `Failed` nothing was appended, and the faults rose in this call; after `Ok` they are as
+    /// before. To take no byte of a piece that has some is a failure too.
     fn put(&mut self, bytes: &[u8]) -> Result<usize, Failed>
         ensures most { IfOk result (λ n. n ≤ length bytes.now) }
         ensures some { IfOk result (λ n. 0 < length bytes.now → 0 < n) }
         ensures written { IfOk result (λ n. written self.new ≡ option_map (λ before. before ++ take n bytes.now) (written self.old)) }
         ensures err { OnErr result (written self.new ≡ written self.old) }
         ensures later { faults self.old ≤ faults self.new }
+        ensures quiet { IfOk result (λ n. faults self.new ≡ faults self.old) }
         ensures failed { OnErr result (Rose (faults self.old) (faults self.new)) };
 }

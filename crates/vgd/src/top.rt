@@ -52,6 +52,9 @@ pub fn vgd_run<F: Folder, O: Sink, G: Gate, R: Wait + Threads + Sync>(
         × IsDue (called words.now (F.contents folder.old) (F.contents folder.new) (F.faults folder.old) (F.faults folder.new)) due line
         × AppendsFront (O.written out.old) (O.written out.new) line }
 
+    // At any other status no call of the sink failed.
+    ensures quiet { result.status ≢ 7 → O.faults out.new ≡ O.faults out.old }
+
     // But for 1 and 7, the status is the one that the words and the files bring.
     ensures exactly { (expected : ℕ)
         → IsExpected (called words.now (F.contents folder.old) (F.contents folder.new) (F.faults folder.old) (F.faults folder.new)) expected

@@ -109,6 +109,9 @@ pub fn draw_run<F: Folder, O: Sink>(
         × IsDue (called words.now (F.contents folder.old) (F.faults folder.old) (F.faults folder.new)) status text
         × AppendsFront (O.written out.old) (O.written out.new) text }
 
+    // At any other status no call of the sink failed.
+    ensures quiet { result ≢ 7 → O.faults out.new ≡ O.faults out.old }
+
     // No file changes.
     ensures same { F.contents folder.new ≡ F.contents folder.old }
 {

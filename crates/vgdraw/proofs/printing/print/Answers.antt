@@ -1,4 +1,4 @@
-use Rattle.std.proofs.Common.{◌<◌, ◌≤◌, length, subst, sym, arith, rules}
+use Rattle.std.proofs.Common.{◌<◌, length, subst, sym, ◌∙◌, rules}
 use Rattle.vgdraw.specs.Run.{AppendsFront}
 use Rattle.vgdraw.proofs.PrintLemmas.{print_piece, print_front, always_on_err}
 use Rattle.vgdraw.proofs.printing.print.Goals as goal
@@ -11,5 +11,5 @@ returns-in_err-taken-clause-front g c =
 
 pub loop-rest-preserved : goal.loop-rest-preserved
 loop-rest-preserved g c =
-    let later : g.O.Sink.faults c.args.out.now ≤ g.O.Sink.faults c.put.new.self = omega (arith, c.loop-rest.invariant.1, c.put.ensures.later) in
-    (print_piece _ _ _ _ c.loop-rest.rest.now c.in_ok-taken.taken _ c.loop-rest.invariant.0 c.in_ok-taken.ensures.written c.split_at.ensures.back, later)
+    (print_piece _ _ _ _ c.loop-rest.rest.now c.in_ok-taken.taken _ c.loop-rest.invariant.0 c.in_ok-taken.ensures.written c.split_at.ensures.back,
+    c.in_ok-taken.ensures.quiet ∙ c.loop-rest.invariant.1)
