@@ -181,8 +181,10 @@ fn know_few(capture: &Capture)
 /// Asks for memory for so many packets, and gives it back at once. From then on the C library keeps what lists up to that size give
 /// back, with its pages, for the lists that come after them.
 fn keep_memory(alloc: Global, packets: u32) {
-    let _given_back: Result<Vec<u8>, AllocError> =
-        Vec::with_capacity(alloc, (packets as usize).saturating_mul(KEPT));
+    let _given_back: Result<Vec<u8>, AllocError> = Vec::with_capacity(
+        alloc,
+        (packets as usize).saturating_mul(KEPT),
+    );
 }
 
 /// Runs what the words ask for, up to the printing.
