@@ -1,1 +1,3 @@
 pub mod PacketLemmas
+pub mod SavedLemmas
+pub mod ScriptExamples

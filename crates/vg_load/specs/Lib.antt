@@ -1,2 +1,4 @@
 pub mod Packets
+pub mod Saved
+pub mod Scripts
 pub mod Summary

@@ -2,6 +2,7 @@
 #![tactic(auto)]
 
 mod frames;
+pub mod laws;
 mod packets;
 mod summaries;
 #[cfg(test)]

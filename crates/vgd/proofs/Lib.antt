@@ -14,3 +14,4 @@ pub mod SentLemmas
 pub mod TurnLemmas
 pub mod WordLemmas
 pub mod NameLemmas
+pub mod AcceptedLemmas

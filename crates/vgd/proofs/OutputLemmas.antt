@@ -7,6 +7,7 @@ use Rattle.std.proofs.lemmas.Option.{none-some, same_Some}
 use Rattle.vg_model.specs.declared.routes.Prefix.{Prefix}
 use Rattle.vg_model.specs.declared.routes.RouteTo.{RouteTo}
 use Rattle.vg_model.specs.Graph.{Graph, Node}
+use Rattle.vg_model.specs.Name.{IsName}
 use Rattle.vg_model.specs.Visit.{ip4_visit}
 use Rattle.vg_model.specs.Journey.{Journey, fates, end_of}
 use Rattle.vg_model.specs.Lawful.{AreLawfulChoices}
@@ -17,6 +18,7 @@ use Rattle.vg_capture.specs.Savefile.{savefile}
 use Rattle.vg_script.specs.Events.{events}
 use Rattle.vg_script.proofs.EventLemmas.{events_are_few}
 use Rattle.vg_report.specs.declared.reports.Report.{Report}
+use Rattle.vg_report.specs.Lawful.{IsLawful}
 use Rattle.vg_report.specs.Text.{text}
 use Rattle.vg_plan.specs.Plan.{Planned, IsPlan, IsGeneration, first_generation}
 use Rattle.vg_plan.specs.Routed.{with_routes}
@@ -34,7 +36,7 @@ use Rattle.vg_check.specs.OneWorker.{alone, HasOwnEnds}
 use Rattle.vg_check.proofs.AlikeLemmas.{sends_alike}
 use Rattle.vg_check.proofs.CourseLemmas.{own_visit}
 use Rattle.vg_check.proofs.JourneyLemmas.{IsOwn, own_journeys, chosen_lawfully}
-use Rattle.vg_check.proofs.LawfulLemmas.{IsReportable}
+use Rattle.vg_check.proofs.LawfulLemmas.{IsReportable, report_lawful}
 use Rattle.vg_check.proofs.OutputLemmas.{named_are}
 use Rattle.vgd.specs.declared.run.Results.{Results}
 use Rattle.vgd.specs.Dues.{AreResultsOf, setting_in}
@@ -110,9 +112,10 @@ module _ (plan : Planned) (options : Options) (capture : Capture) (outcome : Out
       ∙ ap (λ g. report_with (setting_in options) (length plan.graphs) g is.js) whole
 
   -- the report, the savefile and the end are the run's
-  pub results_are : (report : Report) (results : Results) → IsPlan plan → report ≡ reported options (length plan.graphs) outcome → results.report ≡ text report
-      → results.tx ≡ savefile capture outcome.sent → results.end.rests ≡ outcome.rests → results.end.seat ≡ outcome.seat → AreResultsOf plan options lossless capture results
-  results_are report results planned made is_text saved rests seat =
+  pub results_are : (report : Report) (results : Results) → IsPlan plan → report ≡ reported options (length plan.graphs) outcome → IsLawful report → results.report ≡ text report
+      → results.tx ≡ savefile capture outcome.sent → results.end.rests ≡ outcome.rests → results.end.seat ≡ outcome.seat → results.end.settled ≡ outcome.settled
+      → AreResultsOf plan options lossless capture results
+  results_are report results planned made lawful is_text saved rests seat settled =
       let first : ℕ → ℕ = first_generation plan.script capture in
       let is_report : report ≡ report_of (setting_in options) plan.graphs is.js = made ∙ reported_is in
       let named : choices_of report ≡ is.choices =
@@ -125,11 +128,13 @@ module _ (plan : Planned) (options : Options) (capture : Capture) (outcome : Out
       } in
       record {
         report = report;
+        lawful = lawful;
         is_text = is_text;
         output = output;
         end = record {
           rests = subst (AllWith (IsRestOf is.js) (pairs options.workers)) (sym rests) is.rests;
           stamp = subst (λ seat. length plan.graphs ≤ (main_view seat.seat).stamp) (sym seat) is.stamp;
+          settled = settled ∙ is.settled;
         };
         alike = alike_by plan.graphs first (setting_in options) capture report results.tx planned.generations output;
         lossless = λ yes_is. lossless_by plan.graphs first (setting_in options) capture report results.tx outcome.last outcome.fates planned.generations output
@@ -163,6 +168,13 @@ module _ (plan : Planned) (options : Options) (capture : Capture) (outcome : Out
         ends = subst (λ g. AllByRecursion (λ (j : Journey). IsEndIn g (end_of j.course.outcome)) is.js) (sym last) is.ends;
         visits = subst (λ (g : Graph). AllByRecursion (λ (j : Journey). AllByRecursion (λ node. node < length g.nodes) (trace j)) is.js) (sym last) is.visits;
       }
+
+  -- the report is lawful
+  pub made_lawful : (report : Report) → AreInRange options → IsPlan plan → length plan.graphs ≡ length (events plan.script) + 1 → length capture.packets ≤ 65536
+      → report ≡ reported options (length plan.graphs) outcome → AllByRecursion (λ (entry : List ℕ × ℕ). IsName entry.0) report.interfaces
+      → AllByRecursion (λ (entry : List ℕ × ℕ). IsName entry.0) report.nodes → IsLawful report
+  made_lawful report range planned count few_packets made interfaces nodes =
+      report_lawful (setting_in options) plan.graphs (length (frames_of capture)) is.js report (made ∙ reported_is) (reportable range planned count few_packets) interfaces nodes
 
   -- each node of a trace is one of the last graph's
   pub traced_within : AllByRecursion (AllByRecursion (λ node. node < length outcome.last.nodes)) outcome.trace

@@ -194,6 +194,7 @@ done_due call run input results accepted are saved others = inl (
       tx = results.tx;
       accepted = accepted;
       output = are.output;
+      lawful = are.lawful;
       printed = are.is_text;
       saved = saved;
       others = others;

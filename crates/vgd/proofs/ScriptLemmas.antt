@@ -1,6 +1,6 @@
 -- What a text's script makes.
-use Rattle.std.proofs.Common.{◌≡◌, ◌⊎◌, ℕ, List, sym, ap, subst, ◌∙◌, inl, inr}
-use Rattle.std.specs.Prelude.{Result, Ok, Err, IfOk, IfErr}
+use Rattle.std.proofs.Common.{◌≡◌, ◌⊎◌, ℕ, List, refl, sym, ap, subst, ◌∙◌, inl, inr}
+use Rattle.std.specs.Prelude.{◌≢◌, Result, Ok, Err, IfOk, IfErr, IsOk}
 use Rattle.vg_model.specs.Graph.{Graph}
 use Rattle.vg_model.specs.Edit.{Cause}
 use Rattle.vg_model.specs.Generations.{Graphs}
@@ -10,6 +10,7 @@ use Rattle.vg_script.specs.declared.errors.ScriptError.{ScriptError}
 use Rattle.vg_script.specs.declared.scripts.Script.{Script}
 use Rattle.vg_script.specs.Generations.{generations_of}
 use Rattle.vg_script.specs.Reading.{script_of, refused, IsRefusal}
+use Rattle.vg_load.specs.Scripts.{MakesGenerations}
 use Rattle.vg_plan.specs.Plan.{Planned}
 use Rattle.vg_plan.specs.Refusals.{IsRefusalOf, error_of, out_of_memory}
 use Rattle.vgd.specs.Plan.{graphs_by, graphs_of, MakesPlan, IsRefusalFor}
@@ -52,3 +53,17 @@ pub refused_plan : (text : List ℕ) (script : Script) (r : Result Planned Scrip
 refused_plan text script (Ok plan) is h = tt
 refused_plan text script (Err error) is (inl memory) = inl memory
 refused_plan text script (Err error) is (inr (refusal, made, e)) = inr (graphs_by_script text script is ∙ (graphs_refused script refusal made ∙ ap Err (sym e)))
+
+-- a script that makes generations is accepted
+pub accepted_script : (text : List ℕ) (count : ℕ) → MakesGenerations text count → IsOk (graphs_of text)
+accepted_script text count m =
+    subst (λ (r : Result (List Graph) ScriptError). IsOk r) (sym (graphs_by_script text m.script m.is_script ∙ graphs_made m.script m.graphs m.are_graphs)) refl
+
+-- so it is refused for want of memory alone
+pub refused_for_memory : (text : List ℕ) (error : ScriptError) → IsOk (graphs_of text) → IsRefusalFor text error → error.cause ≡ causes.Memory
+refused_for_memory text error ok (inl memory) = ap (λ (e : ScriptError). e.cause) memory
+refused_for_memory text error ok (inr refused) = absurd (not_refused (graphs_of text) error ok refused)
+  where
+    not_refused : (r : Result (List Graph) ScriptError) (error : ScriptError) → IsOk r → r ≡ Err error → ⊥
+    not_refused (Ok graphs) error ok e = cc
+    not_refused (Err other) error ok e = cc

@@ -3,6 +3,7 @@ use Rattle.std.specs.Prelude.{◌≡◌, ◌⊎◌, ℕ, Bool, true, List, lengt
 use Rattle.vg_model.specs.Visit.{ip4_visit}
 use Rattle.vg_capture.specs.declared.captures.Capture.{Capture}
 use Rattle.vg_report.specs.declared.reports.Report.{Report}
+use Rattle.vg_report.specs.Lawful.{IsLawful}
 use Rattle.vg_report.specs.Text.{text}
 use Rattle.vg_plan.specs.Plan.{Planned, first_generation}
 use Rattle.vg_dispatch.specs.declared.options.Options.{Options}
@@ -31,9 +32,10 @@ setting_in options = record { workers = options.workers; buffers = options.buffe
 -- doesn't take are held back or not, and the end of the run that made them
 pub record AreResultsOf (plan : Planned) (options : Options) (hold : Bool) (capture : Capture) (results : Results) : Type 0 where
   pub report : Report
+  pub lawful : IsLawful report
   pub is_text : results.report ≡ text report
   pub output : IsOutput ip4_visit plan.graphs (first_generation plan.script capture) (setting_in options) capture report results.tx
-  pub end : HasEnded options.workers plan.graphs output.js results.end
+  pub end : HasEnded options.workers options.buffers plan.graphs output.js results.end
   pub alike : length plan.graphs ≡ 1 → HasOwnEnds report
       → (other : Report) × IsOutput ip4_visit plan.graphs (first_generation plan.script capture) (alone (setting_in options)) capture other results.tx
   pub lossless : hold ≡ true → IsLossless ip4_visit plan.graphs (first_generation plan.script capture) (setting_in options) capture report results.tx

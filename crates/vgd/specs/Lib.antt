@@ -9,3 +9,4 @@ pub mod Lossless
 pub mod Dues
 pub mod Expected
 pub mod Reports
+pub mod Accepted

@@ -14,6 +14,7 @@ use Rattle.vg_script.specs.Causes.{cause_word}
 use Rattle.vg_script.specs.Generations.{generations_of}
 use Rattle.vg_script.specs.Reading.{script_of}
 use Rattle.vg_report.specs.declared.reports.Report.{Report}
+use Rattle.vg_report.specs.Lawful.{IsLawful}
 use Rattle.vg_report.specs.Text.{text}
 use Rattle.vgd.specs.declared.refusals.Refusal.{Refusal}
 use Rattle.vgd.specs.declared.refusals.Refusal.TheVariants as refusals
@@ -58,7 +59,7 @@ pub record AreAccepted (call : Call) (run : Run) (capture : Capture) (script : S
   pub steps : List Step
   pub are_turns : turns_in run.workers bytes.turns ≡ Ok steps
 
--- a run is done: the folder holds the savefile of the run, all its other files are as before, and this is the text of its report
+-- a run is done: the folder holds the savefile of the run, all its other files are as before, and this is the text of its report, which is lawful
 pub record IsDone (call : Call) (line : List ℕ) : Type 0 where
   pub run : Run
   pub capture : Capture
@@ -68,6 +69,7 @@ pub record IsDone (call : Call) (line : List ℕ) : Type 0 where
   pub tx : List ℕ
   pub accepted : AreAccepted call run capture script graphs
   pub output : IsOutput ip4_visit graphs (first_generation script capture) (setting_of run) capture report tx
+  pub lawful : IsLawful report
   pub printed : line ≡ text report
   pub saved : HoldsBytes call.files_after run.tx tx
   pub others : SameElsewhere call.files call.files_after run.tx
@@ -79,7 +81,7 @@ pub record IsDone (call : Call) (line : List ℕ) : Type 0 where
 
 -- and this is the end of the run whose report was printed
 abbrev pub IsEndOf : {call : Call} {line : List ℕ} → IsDone call line → RunEnd → Type 0
-IsEndOf done end = HasEnded done.run.workers done.graphs done.output.js end
+IsEndOf done end = HasEnded done.run.workers done.run.buffers done.graphs done.output.js end
 
 -- a load is done: this is the text that tells of it, and the folder's files are as before
 pub record IsLoadDone (call : Call) (line : List ℕ) : Type 0 where

@@ -3,6 +3,7 @@
 use vg_barrier::MainSeat;
 use vg_dispatch::WorkerParcel;
 use vg_engine::Rests;
+use vg_pool::Settled;
 
 /// What a run leaves beside its files.
 #[derive(Drop)]
@@ -11,6 +12,8 @@ pub struct RunEnd {
     pub rests: Rests,
     /// Main's seat at the barrier of the run.
     pub seat: MainSeat<WorkerParcel>,
+    /// What the settlement of the run's pool came to.
+    pub settled: Settled,
 }
 
 /// What a call answers.

@@ -1,6 +1,7 @@
 //! A load: random packets through two graphs.
-ghost use Rattle.std.specs.Prelude.{◌≡◌, ◌≤◌, None, IfOk, length};
+ghost use Rattle.std.specs.Prelude.{◌≡◌, ◌≤◌, None, IfOk, IsOk, length};
 ghost use Rattle.vg_load.specs.Summary.{summary as summary_text};
+ghost use Rattle.vgd.specs.Plan.{graphs_of};
 
 use crate::dues::Due;
 use crate::reading::read_script;
@@ -10,9 +11,11 @@ use std::sync::Wait;
 use std::thread::Threads;
 use vg_capture::Capture;
 use vg_engine::{Input, Options};
+use vg_load::laws::scripts_are_accepted;
 use vg_load::{HANDOFF, Load, PLAIN, load_capture, summary};
 use vg_model::{Bytes, Memory};
 use vg_outside::Gate;
+use vg_script::{ScriptCause, ScriptError};
 
 /// What a run of a load came to.
 #[derive(Clone, Copy, Debug)]
@@ -25,7 +28,7 @@ pub struct Counts {
     pub buffers: u32,
 }
 
-/// Sends a capture through the graph of a script, which is one of a load's, by so many workers in threads.
+/// Sends a capture through the graph of a script that is accepted, by so many workers in threads. The only error is want of memory.
 fn run_load<R: Wait + Threads + Sync, G: Gate>(
     rt: &R,
     alloc: Global,
@@ -34,12 +37,20 @@ fn run_load<R: Wait + Threads + Sync, G: Gate>(
     workers: u8,
     gate: &G,
 ) -> Result<Counts, Memory>
-    requires { (1 ≤ workers) × (workers ≤ 8) }
+    requires script { IsOk (graphs_of script.now) }
+    requires workers { (1 ≤ workers) × (workers ≤ 8) }
     ensures ended { IfOk result (λ counts. counts.ended ≡ length capture.now.packets) }
     ensures buffers { IfOk result (λ counts. counts.buffers ≡ 4096) }
 {
-    let Ok(plan) = read_script(alloc, script.as_bytes()) else {
-        return Err(Memory);
+    let plan = match read_script(alloc, script.as_bytes()) {
+        Ok(plan) => plan,
+        Err(
+            ScriptError {
+                cause: ScriptCause::Memory,
+                ..
+            },
+        ) => return Err(Memory),
+        Err(_) => unreachable!(),
     };
     let options = Options {
         workers,
@@ -74,6 +85,7 @@ pub fn run_both<R: Wait + Threads + Sync, G: Gate>(
     ensures ended { IfOk result (λ counts. counts.1.ended ≡ load.now.packets) }
     ensures buffers { IfOk result (λ counts. counts.1.buffers ≡ 4096) }
 {
+    scripts_are_accepted();
     let capture = load_capture(alloc, load.seed, load.packets)?;
     let plain = run_load(rt, alloc, &capture, PLAIN, load.workers, gate)?;
     let handoff = run_load(rt, alloc, &capture, HANDOFF, load.workers, gate)?;

@@ -10,6 +10,7 @@ pub mod dues;
 mod fault_tests;
 #[cfg(test)]
 mod hold_tests;
+pub mod laws;
 pub mod load;
 #[cfg(test)]
 mod load_tests;

@@ -159,6 +159,7 @@ pub fn report(
     ensures nodes { IfOk result (λ r. AllByRecursion (λ entry. IsName entry.0) r.0.nodes) }
     ensures rests { IfOk result (λ r. r.1.rests ≡ outcome.rests) }
     ensures seat { IfOk result (λ r. r.1.seat ≡ outcome.seat) }
+    ensures settled { IfOk result (λ r. r.1.settled ≡ outcome.settled) }
 {
     let Outcome {
         fates,
@@ -183,5 +184,12 @@ pub fn report(
         packets: lines(alloc, &last, fates)?,
         traces: traces(alloc, &last, &trace)?,
     };
-    Ok((report, RunEnd { rests, seat }))
+    Ok((
+        report,
+        RunEnd {
+            rests,
+            seat,
+            settled,
+        },
+    ))
 }

@@ -1,3 +1,4 @@
 pub mod PrintLemmas
 pub mod GenerationLemmas
 pub mod RunLemmas
+pub mod ExpectedLemmas

@@ -1,15 +1,19 @@
 -- Refusals of a drawing.
 use Rattle.std.proofs.Common.{◌≡◌, ℕ, ◌+◌, ◌≤◌, List, length, refl, sym, ap, subst, ◌∙◌, inl, inr, arith}
-use Rattle.std.specs.Prelude.{◌⊎◌, Option, Some, None, option_map, Result, Ok, Err, IfOk, IfErr}
+use Rattle.std.specs.Prelude.{◌≢◌, ◌⊎◌, Option, Some, None, option_map, Result, Ok, Err, IfOk, IfErr}
 use Rattle.vg_outside.specs.Files.{Files, FirstBytes, FailedLoad, IsAbsent}
 use Rattle.vg_script.specs.declared.errors.ScriptCause.{ScriptCause}
 use Rattle.vg_script.specs.declared.errors.ScriptCause.TheVariants as script_causes
 use Rattle.vg_script.specs.declared.errors.ScriptError.{ScriptError}
-use Rattle.vg_script.specs.Reading.{largest_script}
+use Rattle.vg_script.specs.declared.scripts.Script.{Script}
+use Rattle.vg_script.specs.Generations.{generations_of}
+use Rattle.vg_script.specs.Reading.{script_of, refused, largest_script, IsRefusal}
+use Rattle.vg_plan.specs.Refusals.{IsRefusalOf, out_of_memory}
 use Rattle.vg_report.specs.declared.errors.ReportCause.{ReportCause}
 use Rattle.vg_report.specs.declared.errors.ReportCause.TheVariants as report_causes
 use Rattle.vg_report.specs.declared.errors.ReportError.{ReportError}
 use Rattle.vg_report.specs.declared.reports.Report.{Report}
+use Rattle.vg_report.specs.Reading as reports
 use Rattle.vgdraw.specs.declared.refusals.Refusal.{Refusal}
 use Rattle.vgdraw.specs.declared.refusals.Refusal.TheVariants as refusals
 use Rattle.vgdraw.specs.declared.refusals.Stop.{Stop}
@@ -20,7 +24,7 @@ use Rattle.vgdraw.specs.Drawn.{drawings, IsWithin}
 use Rattle.vgdraw.specs.Reading.{IsLoadOf, IsScriptRefusalFor, IsScriptStop, IsReportStop}
 use Rattle.vgdraw.specs.declared.top.Due.{Due}
 use Rattle.vgdraw.specs.Dues.{IsDueFor}
-use Rattle.vgdraw.specs.Run.{Call, MakesAt, IsReportOf, IsDrawn, IsDue, status_of, line_of, OnRefusal, IsRefused, IsScriptRefusal, IsReportAt, script_stop_by, report_stop_by}
+use Rattle.vgdraw.specs.Run.{Call, MakesAt, IsReportOf, IsDrawn, IsDue, status_of, line_of, OnRefusal, IsRefused, IsReportFault, IsMade, largest_report, script_stop, script_stop_by, report_stop, report_stop_by}
 use Rattle.vgdraw.proofs.PrintLemmas.{rose_later}
 
 -- a fact of all refusals of one kind holds of those of another
@@ -28,14 +32,83 @@ pub on_refusal : (P Q : Refusal → Type 0) (stop : Stop) → ((refusal : Refusa
 on_refusal P Q stops.Memory f h = tt
 on_refusal P Q (stops.Refused refusal) f h = f refusal h
 
--- a fault stops with itself
-pub script_stops : (P : Refusal → Type 0) (cause : ScriptCause) (stop : Stop) → OnRefusal P stop → OnRefusal P (script_stop_by cause stop)
-script_stops P script_causes.Memory stop h = tt
-script_stops P cause stop h = h
+-- ---- what isn't for want of memory
 
-pub report_stops : (P : Refusal → Type 0) (cause : ReportCause) (stop : Stop) → OnRefusal P stop → OnRefusal P (report_stop_by cause stop)
-report_stops P report_causes.Memory stop h = tt
-report_stops P cause stop h = h
+-- a cause of a script or a report other than want of memory
+not_memory : (cause : ScriptCause) → (cause ≡ script_causes.Memory) ⊎ (cause ≢ script_causes.Memory)
+not_memory script_causes.Memory = inl refl
+not_memory cause = inr (λ e. cc)
+
+report_not_memory : (cause : ReportCause) → (cause ≡ report_causes.Memory) ⊎ (cause ≢ report_causes.Memory)
+report_not_memory report_causes.Memory = inl refl
+report_not_memory cause = inr (λ e. cc)
+
+-- the refusal of a text is its own, where it isn't for want of memory
+refused_text : (this : Result Script ScriptError) (line : ℕ) (cause : ScriptCause) → cause ≢ script_causes.Memory → IsRefusal this line cause → this ≡ refused line cause
+refused_text this line script_causes.Memory other h = absurd (other refl)
+refused_text this line cause other h = h
+
+refused_report : (this : Result Report ReportError) (line : ℕ) (cause : ReportCause) → cause ≢ report_causes.Memory → reports.IsRefusal this line cause
+    → this ≡ reports.refused line cause
+refused_report this line report_causes.Memory other h = absurd (other refl)
+refused_report this line cause other h = h
+
+-- a stop for want of memory, and one for another cause
+stop_memory : (P : Refusal → Type 0) (cause : ScriptCause) (stop : Stop) → cause ≡ script_causes.Memory → OnRefusal P (script_stop_by cause stop)
+stop_memory P cause stop e = subst (λ c. OnRefusal P (script_stop_by c stop)) (sym e) tt
+
+stop_other : (P : Refusal → Type 0) (cause : ScriptCause) (stop : Stop) → OnRefusal P stop → OnRefusal P (script_stop_by cause stop)
+stop_other P script_causes.Memory stop h = tt
+stop_other P cause stop h = h
+
+report_stop_memory : (P : Refusal → Type 0) (cause : ReportCause) (stop : Stop) → cause ≡ report_causes.Memory → OnRefusal P (report_stop_by cause stop)
+report_stop_memory P cause stop e = subst (λ c. OnRefusal P (report_stop_by c stop)) (sym e) tt
+
+report_stop_other : (P : Refusal → Type 0) (cause : ReportCause) (stop : Stop) → OnRefusal P stop → OnRefusal P (report_stop_by cause stop)
+report_stop_other P report_causes.Memory stop h = tt
+report_stop_other P cause stop h = h
+
+-- what a text that is refused stops the drawing with
+pub text_stops : (text : List ℕ) (error : ScriptError) → IsRefusal (script_of text) error.line error.cause → OnRefusal (IsScriptRefusalFor text) (script_stop error)
+text_stops text error h = elim (not_memory error.cause) [
+  | inl memory ↦ stop_memory (IsScriptRefusalFor text) error.cause (stops.Refused (refusals.Script error)) memory
+  | inr other ↦
+      stop_other (IsScriptRefusalFor text) error.cause (stops.Refused (refusals.Script error))
+      (inl (refused_text (script_of text) error.line error.cause other h), other)
+]
+
+-- what a script of which an edit is refused stops the drawing with
+pub edit_stops : (text : List ℕ) (script : Script) (error : ScriptError) → script_of text ≡ Ok script → IsRefusalOf (generations_of script) error
+    → OnRefusal (IsScriptRefusalFor text) (script_stop error)
+edit_stops text script error is (inl memory) = stop_memory (IsScriptRefusalFor text) error.cause (stops.Refused (refusals.Script error)) (ap (λ (e : ScriptError). e.cause) memory)
+edit_stops text script error is (inr refusal) = elim (not_memory error.cause) [
+  | inl memory ↦ stop_memory (IsScriptRefusalFor text) error.cause (stops.Refused (refusals.Script error)) memory
+  | inr other ↦
+      stop_other (IsScriptRefusalFor text) error.cause (stops.Refused (refusals.Script error))
+      (inr (script, is, (refusal.0, refusal.1, refusal.2)), other)
+]
+
+-- what a report that is refused stops the drawing with
+pub report_stops : (files : Option Files) (name bytes : List ℕ) (before after : List ℕ → ℕ) (error : ReportError)
+    → FirstBytes files name (largest_report + 1) bytes → reports.IsRefusal (reports.report_of bytes) error.line error.cause
+    → OnRefusal (IsReportStop files (Some name) before after) (report_stop error)
+report_stops files name bytes before after error loaded h = elim (report_not_memory error.cause) [
+  | inl memory ↦ report_stop_memory (IsReportStop files (Some name) before after) error.cause (stops.Refused (refusals.Report error)) memory
+  | inr other ↦
+      report_stop_other (IsReportStop files (Some name) before after) error.cause (stops.Refused (refusals.Report error))
+      (
+          name,
+          refl,
+          record {
+            bytes = bytes;
+            loaded = loaded;
+            refused = refused_report (reports.report_of bytes) error.line error.cause other h;
+            no_memory = other;
+          },
+      )
+]
+
+-- ---- what is refused of a call
 
 -- a load of a script that failed
 pub script_load : (files : Option Files) (name : List ℕ) (before after : List ℕ → ℕ) (refusal : Refusal)
@@ -52,7 +125,7 @@ pub script_text : (files : Option Files) (name bytes : List ℕ) (before after :
 script_text files name bytes before after refusals.Usage loaded h = h
 script_text files name bytes before after (refusals.Generation count) loaded h = h
 script_text files name bytes before after (refusals.Load failed) loaded h = absurd h
-script_text files name bytes before after (refusals.Script error) loaded h = record { bytes = bytes; loaded = loaded; refused = h }
+script_text files name bytes before after (refusals.Script error) loaded h = record { bytes = bytes; loaded = loaded; refused = h.0; no_memory = h.1 }
 script_text files name bytes before after (refusals.Report error) loaded h = h
 
 -- a load of a report that failed
@@ -80,19 +153,25 @@ failed_before : (files now : Option Files) (name : List ℕ) (first before after
 failed_before files now name first before after same less (inl rose) = inl (rose_later first before after less rose)
 failed_before files now name first before after same less (inr absent) = inr (subst (λ fs. IsAbsent fs name) same absent)
 
--- what is read of a report once the script was loaded
-pub report_same : (files now : Option Files) (name : List ℕ) (answer : Result Report ReportError) → now ≡ files → IsReportAt now name answer → IsReportAt files name answer
-report_same files now name answer same h = subst (λ fs. IsReportAt fs name answer) same h
+-- the refusal of a report once the script was loaded
+report_same : (files now : Option Files) (name : List ℕ) (error : ReportError) → now ≡ files → IsReportFault now name error → IsReportFault files name error
+report_same files now name error same h = subst (λ fs. IsReportFault fs name error) same h
 
 -- the refusal of a report is one of the call
-pub report_refused : (call : Call) (ask : Ask) (now : Option Files) (before : List ℕ → ℕ) (refusal : Refusal) → asked call.words ≡ Some ask
+pub report_refused : (call : Call) (ask : Ask) (now : Option Files) (before : List ℕ → ℕ) (refusal : Refusal) → asked call.words ≡ Some ask → IsMade call ask
     → now ≡ call.files → ((name : List ℕ) → call.faults name ≤ before name) → IsReportStop now ask.report before call.faults_after refusal → IsRefused call refusal
-report_refused call ask now before refusals.Usage is same less h = absurd h
-report_refused call ask now before (refusals.Generation count) is same less h = absurd h
-report_refused call ask now before (refusals.Load name) is same less h =
-    (ask, is, (inr h.0, failed_before call.files now name.now (call.faults name.now) (before name.now) (call.faults_after name.now) same (less name.now) h.1))
-report_refused call ask now before (refusals.Script error) is same less h = absurd h
-report_refused call ask now before (refusals.Report error) is same less h = (ask, is, (h.0, h.1, report_same call.files now h.0 (Err error) same h.2))
+report_refused call ask now before refusals.Usage is made same less h = absurd h
+report_refused call ask now before (refusals.Generation count) is made same less h = absurd h
+report_refused call ask now before (refusals.Load name) is made same less h = (
+  ask,
+  is,
+  (
+      inr (h.0, made),
+      failed_before call.files now name.now (call.faults name.now) (before name.now) (call.faults_after name.now) same (less name.now) h.1,
+  ),
+)
+report_refused call ask now before (refusals.Script error) is made same less h = absurd h
+report_refused call ask now before (refusals.Report error) is made same less h = (ask, is, (made, (h.0, h.1, report_same call.files now h.0 error same h.2)))
 
 -- what is due at the end of a call
 pub due_is : (call : Call) (drawn : Result (List ℕ) Stop) (due : Due) → IfOk drawn (IsDrawn call) → IfErr drawn (OnRefusal (IsRefused call)) → IsDueFor drawn (Some due)
@@ -108,9 +187,11 @@ refused_at call status text (inl drawn) h = absurd (omega (arith, drawn.0, h))
 refused_at call status text (inr refused) h = refused
 
 -- the words ask for a generation that the script doesn't make
-pub generation_refused : (call : Call) (ask : Ask) (graphs : List Graph) (count : ℕ) → asked call.words ≡ Some ask → MakesAt call.files ask.script graphs
-    → count ≡ length graphs → (IsWithin count ask.which → ⊥) → IsRefused call (refusals.Generation count)
-generation_refused call ask graphs count is made same beyond = (ask, is, (graphs, made, sym same, beyond))
+pub generation_refused : (call : Call) (ask : Ask) (graphs : List Graph) (count : ℕ) (now : Option Files) (report : Option Report) → asked call.words ≡ Some ask
+    → MakesAt call.files ask.script graphs → count ≡ length graphs → (IsWithin count ask.which → ⊥) → now ≡ call.files → IsReportOf now ask.report report
+    → IsRefused call (refusals.Generation count)
+generation_refused call ask graphs count now report is made same beyond files is_report =
+    (ask, is, ((graphs, made, sym same, beyond), (report, subst (λ fs. IsReportOf fs ask.report report) files is_report)))
 
 -- the text is that of the drawings
 pub drawn_is : (call : Call) (ask : Ask) (graphs : List Graph) (count : ℕ) (now : Option Files) (report : Option Report) (text : List ℕ) → asked call.words ≡ Some ask

@@ -3,3 +3,4 @@ pub mod Drawn
 pub mod Reading
 pub mod Run
 pub mod Dues
+pub mod Expected

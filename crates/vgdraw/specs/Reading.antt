@@ -1,9 +1,10 @@
 -- Why a script or a report isn't read.
-use Rattle.std.specs.Prelude.{◌≡◌, ℕ, List, Option, Some, Err}
+use Rattle.std.specs.Prelude.{◌≡◌, ◌≢◌, ℕ, List, Option, Some}
 use Rattle.vg_outside.specs.Files.{Files, FailedLoad}
+use Rattle.vg_script.specs.declared.errors.ScriptCause.TheVariants as script_causes
 use Rattle.vgdraw.specs.declared.refusals.Refusal.{Refusal}
 use Rattle.vgdraw.specs.declared.refusals.Refusal.TheVariants as refusals
-use Rattle.vgdraw.specs.Run.{IsScriptRefusal, IsScriptFault, IsReportAt}
+use Rattle.vgdraw.specs.Run.{IsScriptRefusal, IsScriptFault, IsReportFault}
 
 -- a file couldn't be loaded, and the fact holds of its name
 abbrev pub IsLoadOf : (List ℕ → Type 0) → Refusal → Type 0
@@ -18,7 +19,7 @@ abbrev pub IsScriptRefusalFor : List ℕ → Refusal → Type 0
 IsScriptRefusalFor text refusals.Usage = ⊥
 IsScriptRefusalFor text (refusals.Generation count) = ⊥
 IsScriptRefusalFor text (refusals.Load name) = ⊥
-IsScriptRefusalFor text (refusals.Script error) = IsScriptRefusal text error
+IsScriptRefusalFor text (refusals.Script error) = IsScriptRefusal text error × (error.cause ≢ script_causes.Memory)
 IsScriptRefusalFor text (refusals.Report error) = ⊥
 
 -- the script of this name couldn't be loaded, or it is refused
@@ -35,4 +36,4 @@ IsReportStop files named before after refusals.Usage = ⊥
 IsReportStop files named before after (refusals.Generation count) = ⊥
 IsReportStop files named before after (refusals.Load failed) = (named ≡ Some failed.now) × FailedLoad files failed.now (before failed.now) (after failed.now)
 IsReportStop files named before after (refusals.Script error) = ⊥
-IsReportStop files named before after (refusals.Report error) = (name : List ℕ) × (named ≡ Some name) × IsReportAt files name (Err error)
+IsReportStop files named before after (refusals.Report error) = (name : List ℕ) × (named ≡ Some name) × IsReportFault files name error

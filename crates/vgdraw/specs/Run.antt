@@ -9,13 +9,14 @@ use Rattle.vg_script.specs.declared.errors.ScriptError.{ScriptError}
 use Rattle.vg_script.specs.declared.scripts.Script.{Script}
 use Rattle.vg_script.specs.Causes.{cause_word}
 use Rattle.vg_script.specs.Generations.{generations_of}
-use Rattle.vg_script.specs.Reading.{script_of, largest_script, IsRefusal}
-use Rattle.vg_plan.specs.Refusals.{IsRefusalOf}
+use Rattle.vg_script.specs.Reading.{script_of, largest_script}
+use Rattle.vg_model.specs.Edit.{Cause}
+use Rattle.vg_plan.specs.Refusals.{error_of}
 use Rattle.vg_report.specs.declared.errors.ReportCause.{ReportCause}
 use Rattle.vg_report.specs.declared.errors.ReportCause.TheVariants as report_causes
 use Rattle.vg_report.specs.declared.errors.ReportError.{ReportError}
 use Rattle.vg_report.specs.declared.reports.Report.{Report}
-use Rattle.vg_report.specs.Reading.{AnswersRead}
+use Rattle.vg_report.specs.Reading.{report_of}
 use Rattle.vg_words.specs.Command.{texts}
 use Rattle.vgdraw.specs.declared.refusals.Refusal.{Refusal}
 use Rattle.vgdraw.specs.declared.refusals.Refusal.TheVariants as refusals
@@ -80,10 +81,11 @@ pub record Makes (text : List ℕ) (graphs : List Graph) : Type 0 where
   pub is_script : script_of text ≡ Ok script
   pub are_graphs : generations_of script ≡ Ok graphs
 
--- the text of a script is refused, or an edit of it is
+-- the text of a script is refused, or it is read and this is the first of its edits that is refused
 abbrev pub IsScriptRefusal : List ℕ → ScriptError → Type 0
 IsScriptRefusal text error =
-    IsRefusal (script_of text) error.line error.cause ⊎ ((script : Script) × (script_of text ≡ Ok script) × IsRefusalOf (generations_of script) error)
+    (script_of text ≡ Err error)
+    ⊎ ((script : Script) × (script_of text ≡ Ok script) × ((refusal : ℕ × Cause) × (generations_of script ≡ Err refusal) × (error ≡ error_of refusal)))
 
 -- the script of this name makes these graphs
 pub record MakesAt (files : Option Files) (name : List ℕ) (graphs : List Graph) : Type 0 where
@@ -96,21 +98,29 @@ pub record IsScriptFault (files : Option Files) (name : List ℕ) (error : Scrip
   pub bytes : List ℕ
   pub loaded : FirstBytes files name (largest_script + 1) bytes
   pub refused : IsScriptRefusal bytes error
+  pub no_memory : error.cause ≢ script_causes.Memory
 
 -- the most bytes of a report; a lawful one has fewer
 abbrev pub largest_report : ℕ
 largest_report = 16777216
 
--- what is read of the report of this name
-pub record IsReportAt (files : Option Files) (name : List ℕ) (answer : Result Report ReportError) : Type 0 where
+-- this is the report of that name
+pub record IsReportAt (files : Option Files) (name : List ℕ) (report : Report) : Type 0 where
   pub bytes : List ℕ
   pub loaded : FirstBytes files name (largest_report + 1) bytes
-  pub read : AnswersRead bytes answer
+  pub is_report : report_of bytes ≡ Ok report
+
+-- the report of this name is refused
+pub record IsReportFault (files : Option Files) (name : List ℕ) (error : ReportError) : Type 0 where
+  pub bytes : List ℕ
+  pub loaded : FirstBytes files name (largest_report + 1) bytes
+  pub refused : report_of bytes ≡ Err error
+  pub no_memory : error.cause ≢ report_causes.Memory
 
 -- this is the report of that name, where one is named
 abbrev pub IsReportOf : Option Files → Option (List ℕ) → Option Report → Type 0
 IsReportOf files None None = Unit {0}
-IsReportOf files (Some name) (Some report) = IsReportAt files name (Ok report)
+IsReportOf files (Some name) (Some report) = IsReportAt files name report
 IsReportOf files None (Some report) = ⊥
 IsReportOf files (Some name) None = ⊥
 
@@ -143,14 +153,23 @@ pub record IsDrawn (call : Call) (text : List ℕ) : Type 0 where
 abbrev pub IsLoadFault : Call → List ℕ → Type 0
 IsLoadFault call name = FailedLoad call.files name (call.faults name) (call.faults_after name)
 
--- why nothing is drawn
+-- the script makes graphs
+abbrev pub IsMade : Call → Ask → Type 0
+IsMade call ask = (graphs : List Graph) × MakesAt call.files ask.script graphs
+
+-- the file is loaded next: the script; or the report, once the script made graphs
+abbrev pub IsLoadedNext : Call → Ask → List ℕ → Type 0
+IsLoadedNext call ask name = (name ≡ ask.script) ⊎ ((ask.report ≡ Some name) × IsMade call ask)
+
+-- why nothing is drawn; what is looked at before was there and is accepted: the script, then the report, then the number of the generation
 abbrev pub IsRefusedFor : Call → Ask → Refusal → Type 0
 IsRefusedFor call ask refusals.Usage = ⊥
 IsRefusedFor call ask (refusals.Generation count) =
-    (graphs : List Graph) × MakesAt call.files ask.script graphs × (length graphs ≡ count) × (IsWithin count ask.which → ⊥)
-IsRefusedFor call ask (refusals.Load name) = ((name.now ≡ ask.script) ⊎ (ask.report ≡ Some name.now)) × IsLoadFault call name.now
+    ((graphs : List Graph) × MakesAt call.files ask.script graphs × (length graphs ≡ count) × (IsWithin count ask.which → ⊥))
+    × ((report : Option Report) × IsReportOf call.files ask.report report)
+IsRefusedFor call ask (refusals.Load name) = IsLoadedNext call ask name.now × IsLoadFault call name.now
 IsRefusedFor call ask (refusals.Script error) = IsScriptFault call.files ask.script error
-IsRefusedFor call ask (refusals.Report error) = (name : List ℕ) × (ask.report ≡ Some name) × IsReportAt call.files name (Err error)
+IsRefusedFor call ask (refusals.Report error) = IsMade call ask × ((name : List ℕ) × (ask.report ≡ Some name) × IsReportFault call.files name error)
 
 -- the words ask for no drawing; or they ask for one that is refused
 abbrev pub IsRefused : Call → Refusal → Type 0

@@ -1,9 +1,10 @@
 //! The top call.
-ghost use Rattle.std.specs.Prelude.{◌≡◌, ◌≢◌, ◌≤◌, ℕ, List, IsTrue, ◌↔◌, length, IfOk, IfErr};
+ghost use Rattle.std.specs.Prelude.{◌≡◌, ◌≢◌, ◌⊎◌, ◌≤◌, ℕ, List, IsTrue, ◌↔◌, length, IfOk, IfErr};
 ghost use Rattle.vg_outside.specs.Files.{Rose};
 ghost use Rattle.vgdraw.specs.declared.refusals.Refusal.{Refusal as Refused};
 ghost use Rattle.vgdraw.specs.Drawn.{IsWithin};
 ghost use Rattle.vgdraw.specs.Dues.{IsDueFor};
+ghost use Rattle.vgdraw.specs.Expected.{IsExpected};
 ghost use Rattle.vgdraw.specs.Run.{called, status_of, line_of, IsDrawn, IsRefused, IsDue, OnRefusal, Appends, AppendsFront};
 
 use crate::drawings::draw_generations;
@@ -111,6 +112,11 @@ pub fn draw_run<F: Folder, O: Sink>(
 
     // At any other status no call of the sink failed.
     ensures quiet { result ≢ 7 → O.faults out.new ≡ O.faults out.old }
+
+    // But for 1 and 7, the status is the one that the words and the files bring.
+    ensures exactly { (expected : ℕ)
+        → IsExpected (called words.now (F.contents folder.old) (F.faults folder.old) (F.faults folder.new)) expected
+        → (result ≡ expected) ⊎ ((result ≡ 1) ⊎ (result ≡ 7)) }
 
     // No file changes.
     ensures same { F.contents folder.new ≡ F.contents folder.old }

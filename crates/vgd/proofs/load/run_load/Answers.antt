@@ -3,9 +3,9 @@ use Rattle.vgd.proofs.CountedLoadLemmas.{all_ended, load_range}
 use Rattle.vgd.proofs.load.run_load.Goals as goal
 
 pub run_workers-requires-clause-options : goal.run_workers-requires-clause-options
-run_workers-requires-clause-options g c κs within = load_range c.args.workers c.requires
+run_workers-requires-clause-options g c κs within = load_range c.args.workers c.requires.workers
 
 pub returns-clause-ended : goal.returns-clause-ended
 returns-clause-ended g c =
     ap length c.as_slice.ensures
-    ∙ all_ended c.in-Ok.plan _ c.args.capture.now c.in_ok-outcome.outcome c.in_ok-outcome.ensures (load_range c.args.workers c.requires) c.generations-generations.ensures.plan
+    ∙ all_ended c.in-Ok.plan _ c.args.capture.now c.in_ok-outcome.outcome c.in_ok-outcome.ensures (load_range c.args.workers c.requires.workers) c.generations-generations.ensures.plan

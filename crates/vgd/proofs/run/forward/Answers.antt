@@ -7,11 +7,9 @@ use Rattle.vg_model.specs.Journey.{longest_packet}
 use Rattle.vg_plan.specs.Plan.{first_generation}
 use Rattle.vg_engine.specs.Outcomes.{IsOutcome}
 use Rattle.vg_check.specs.Output.{frames_of}
-use Rattle.vg_check.proofs.LawfulLemmas.{report_lawful}
-use Rattle.vgd.specs.Dues.{setting_in}
 use Rattle.vgd.specs.Reports.{reported}
 use Rattle.vgd.proofs.SentLemmas.{are_within, fates_end}
-use Rattle.vgd.proofs.OutputLemmas.{own, reported_is, results_are, reportable, traced_within}
+use Rattle.vgd.proofs.OutputLemmas.{own, results_are, made_lawful, traced_within}
 use Rattle.vgd.proofs.run.forward.Goals as goal
 
 pub savefile_of-requires : goal.savefile_of-requires
@@ -47,10 +45,8 @@ write_report-requires g c =
     let is : IsOutcome ip4_visit c.args.hold plan.graphs (first_generation plan.script capture) capture options outcome = c.in_ok-outcome.ensures in
     let made : c.in-Ok-report.report ≡ reported options (length plan.graphs) outcome =
     c.in-Ok-report.ensures.report ∙ ap (λ n. reported options n outcome) c.generations-generations.ensures.graphs in
-    report_lawful (setting_in options) plan.graphs (length (frames_of capture)) is.js c.in-Ok-report.report
-    (made ∙ reported_is plan options capture outcome c.args.hold is)
-    (reportable plan options capture outcome c.args.hold is c.requires.options c.generations-generations.ensures.plan
-    (sym c.generations-generations.ensures.graphs ∙ c.generations-generations.ensures.events) c.know_few.ensures)
+    made_lawful plan options capture outcome c.args.hold is c.in-Ok-report.report c.requires.options c.generations-generations.ensures.plan
+    (sym c.generations-generations.ensures.graphs ∙ c.generations-generations.ensures.events) c.know_few.ensures made
     c.in-Ok-report.ensures.interfaces c.in-Ok-report.ensures.nodes
 
 pub returns : goal.returns
@@ -60,5 +56,9 @@ returns g c =
     let outcome = c.in_ok-outcome.outcome in
     let made : c.in-Ok-report.report ≡ reported options (length plan.graphs) outcome =
     c.in-Ok-report.ensures.report ∙ ap (λ n. reported options n outcome) c.generations-generations.ensures.graphs in
-    results_are plan options c.args.input.now.capture outcome c.args.hold c.in_ok-outcome.ensures c.in-Ok-report.report _ c.generations-generations.ensures.plan made
-    c.in_ok-report.ensures c.in-Ok.ensures c.in-Ok-report.ensures.rests c.in-Ok-report.ensures.seat
+    let lawful =
+    made_lawful plan options c.args.input.now.capture outcome c.args.hold c.in_ok-outcome.ensures c.in-Ok-report.report c.requires.options c.generations-generations.ensures.plan
+    (sym c.generations-generations.ensures.graphs ∙ c.generations-generations.ensures.events) c.know_few.ensures made
+    c.in-Ok-report.ensures.interfaces c.in-Ok-report.ensures.nodes in
+    results_are plan options c.args.input.now.capture outcome c.args.hold c.in_ok-outcome.ensures c.in-Ok-report.report _ c.generations-generations.ensures.plan made lawful
+    c.in_ok-report.ensures c.in-Ok.ensures c.in-Ok-report.ensures.rests c.in-Ok-report.ensures.seat c.in-Ok-report.ensures.settled

@@ -1,7 +1,8 @@
-use Rattle.std.proofs.Common.{subst, ◌∙◌}
+use Rattle.std.proofs.Common.{subst, ◌∙◌, inl}
 use Rattle.vgdraw.specs.Dues.{IsDueFor}
 use Rattle.vgdraw.specs.Run.{Appends, AppendsFront}
 use Rattle.vgdraw.proofs.RunLemmas.{due_is, refused_at}
+use Rattle.vgdraw.proofs.ExpectedLemmas.{due_expected}
 use Rattle.vgdraw.proofs.top.draw_run.Goals as goal
 
 pub returns-in-Ok-clause-refused : goal.returns-in-Ok-clause-refused
@@ -18,3 +19,7 @@ returns-clause-printing g c = λ seven. (
   due_is _ c.drawn.result c.in-Some.due c.drawn.ensures.text c.drawn.ensures.stop (subst (IsDueFor c.drawn.result) c.in-Some.is c.due_for.ensures),
   subst (AppendsFront (g.O.Sink.written c.args.out.now) (g.O.Sink.written c.print.new.out)) c.as_slice.ensures c.in-Err.ensures.front,
 )
+
+pub returns-in-Ok-clause-exactly : goal.returns-in-Ok-clause-exactly
+returns-in-Ok-clause-exactly g c = λ expected e. inl
+    (due_expected _ c.drawn.result c.in-Some.due expected c.drawn.ensures.text c.drawn.ensures.stop (subst (IsDueFor c.drawn.result) c.in-Some.is c.due_for.ensures) e)

@@ -28,7 +28,7 @@ returns-in-Err-load_report-clause-stop g c =
     let after = g.F.Folder.faults c.load_report.new.folder in
     let call : Call = called c.args.words.now (g.F.Folder.contents c.args.folder.now) (g.F.Folder.faults c.args.folder.now) after in
     on_refusal (IsReportStop now ask.report middle after) (IsRefused call) c.in-Err-load_report.stop
-    (λ refusal h. report_refused call ask now middle refusal is c.load_plan.ensures.same c.load_plan.ensures.later h) c.in-Err-load_report.ensures.stop
+    (λ refusal h. report_refused call ask now middle refusal is (c.in-Ok.plan.graphs, c.in-Ok.ensures.plan) c.load_plan.ensures.same c.load_plan.ensures.later h) c.in-Err-load_report.ensures.stop
 
 pub returns-in-Ok-draw_generations-clause-text : goal.returns-in-Ok-draw_generations-clause-text
 returns-in-Ok-draw_generations-clause-text g c =
