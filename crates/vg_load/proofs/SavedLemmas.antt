@@ -38,7 +38,9 @@ length-records (suc count) number state all e =
     let first : length (sent_in all (number, packet.bytes)) ≡ 76 =
     ap (λ (o : Option Captured). length (unwrap_or (option_map (λ captured. record_of captured packet.bytes) o) [])) here ∙ length-load_record number (mix_u64 state).0 in
     let rest = length-records count (suc number) (mix_u64 state).1 all behind in
-    length-append (sent_in all (number, packet.bytes)) (flat_map (sent_in all) (numbered_from (suc number) others)) ∙ omega (arith, first, rest)
+    let moved : length (flat_map (sent_in all) (numbered_from (number + 1) others)) ≡ length (flat_map (sent_in all) (numbered_from (suc number) others)) =
+    ap (λ n. length (flat_map (sent_in all) (numbered_from n others))) (sym next) in
+    length-append (sent_in all (number, packet.bytes)) (flat_map (sent_in all) (numbered_from (number + 1) others)) ∙ omega (arith, first, rest, moved)
 
 -- the whole savefile
 pub length-whole_savefile : (seed packets : ℕ) (capture : Capture) → IsLoad seed packets capture → length (whole_savefile capture) ≡ savefile_len packets
