@@ -95,16 +95,15 @@ pub report_stops : (files : Option Files) (name bytes : List ℕ) (before after 
 report_stops files name bytes before after error loaded h = elim (report_not_memory error.cause) [
   | inl memory ↦ report_stop_memory (IsReportStop files (Some name) before after) error.cause (stops.Refused (refusals.Report error)) memory
   | inr other ↦
-      report_stop_other (IsReportStop files (Some name) before after) error.cause (stops.Refused (refusals.Report error))
-      (
-          name,
-          refl,
-          record {
-            bytes = bytes;
-            loaded = loaded;
-            refused = refused_report (reports.report_of bytes) error.line error.cause other h;
-            no_memory = other;
-          },
+      report_stop_other (IsReportStop files (Some name) before after) error.cause (stops.Refused (refusals.Report error)) (
+        name,
+        refl,
+        record {
+          bytes = bytes;
+          loaded = loaded;
+          refused = refused_report (reports.report_of bytes) error.line error.cause other h;
+          no_memory = other;
+        },
       )
 ]
 
@@ -166,8 +165,8 @@ report_refused call ask now before (refusals.Load name) is made same less h = (
   ask,
   is,
   (
-      inr (h.0, made),
-      failed_before call.files now name.now (call.faults name.now) (before name.now) (call.faults_after name.now) same (less name.now) h.1,
+    inr (h.0, made),
+    failed_before call.files now name.now (call.faults name.now) (before name.now) (call.faults_after name.now) same (less name.now) h.1,
   ),
 )
 report_refused call ask now before (refusals.Script error) is made same less h = absurd h

@@ -10,6 +10,7 @@ returns-in_err-taken-clause-front g c =
     always_on_err c.from_residual.result _ (subst (λ o. AppendsFront (g.O.Sink.written c.args.out.now) o c.args.text.now) (sym c.in_err-taken.ensures.err) front)
 
 pub loop-rest-preserved : goal.loop-rest-preserved
-loop-rest-preserved g c =
-    (print_piece _ _ _ _ c.loop-rest.rest.now c.in_ok-taken.taken _ c.loop-rest.invariant.0 c.in_ok-taken.ensures.written c.split_at.ensures.back,
-    c.in_ok-taken.ensures.quiet ∙ c.loop-rest.invariant.1)
+loop-rest-preserved g c = (
+  print_piece _ _ _ _ c.loop-rest.rest.now c.in_ok-taken.taken _ c.loop-rest.invariant.0 c.in_ok-taken.ensures.written c.split_at.ensures.back,
+  c.in_ok-taken.ensures.quiet ∙ c.loop-rest.invariant.1,
+)
