@@ -1,4 +1,5 @@
 //! What a trial is.
+ghost use Rattle.std.specs.Prelude.{◌≤◌, IfSome};
 ghost use Rattle.vg_dispatch.specs.Progress.{AreInRange};
 
 use vg_engine::Options;
