@@ -1,4 +1,4 @@
-use Rattle.std.proofs.Common.{◌≡◌, ◌∙◌, ap, length}
+use Rattle.std.proofs.Common.{◌≡◌, ◌∙◌, length}
 use Rattle.vgd.proofs.CountedLoadLemmas.{all_ended, load_range}
 use Rattle.vgd.proofs.load.run_load.Goals as goal
 
@@ -7,5 +7,5 @@ run_workers-requires-clause-options g c κs within = load_range c.args.workers c
 
 pub returns-clause-ended : goal.returns-clause-ended
 returns-clause-ended g c =
-    ap length c.as_slice.ensures
+    c.len.ensures
     ∙ all_ended c.in-Ok.plan _ c.args.capture.now c.in_ok-outcome.outcome c.in_ok-outcome.ensures (load_range c.args.workers c.requires.workers) c.generations-generations.ensures.plan
