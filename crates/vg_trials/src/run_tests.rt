@@ -146,10 +146,12 @@ pub(crate) fn are_expected(outcome: &Outcome, all: &[Expected]) -> bool {
     if fates.len() != all.len() {
         return false;
     }
+    let mut number = 0_u32;
     for (k, expected) in all.iter().enumerate() {
-        if !is_expected(&fates.get(k), k as u32, expected) {
+        if !is_expected(&fates.get(k), number, expected) {
             return false;
         }
+        number = number.wrapping_add(1);
     }
     true
 }
