@@ -2,7 +2,6 @@ pub mod SumLemmas
 pub mod OutletLemmas
 pub mod OwedLemmas
 pub mod SentLemmas
-pub mod LogLemmas
 pub mod WorkLemmas
 pub mod CountLemmas
 pub mod PutLemmas

@@ -1,7 +1,6 @@
 pub mod Progress
 pub mod Round
 pub mod SentEntries
-pub mod Logs
 pub mod Underway
 pub mod Places
 pub mod Traced

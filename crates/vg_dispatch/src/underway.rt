@@ -15,7 +15,6 @@ ghost use Rattle.vg_nodes.specs.Sorting.{nothing_sorted};
 ghost use Rattle.vg_dispatch.specs.SentEntries.{AreWithin, sent_by};
 ghost use Rattle.vg_dispatch.specs.Underway.{stationed, leg_here, contents_at, IsSetting};
 
-use crate::logs::{FateLog, legs_of};
 use crate::peers::place_of;
 use crate::sent::SentEntry;
 use crate::stations::Station;
@@ -24,6 +23,7 @@ use std::mem;
 use std::sync::ledger::Ledger;
 use vg_capture::Packets;
 use vg_counters::{Counters, Trace};
+use vg_fates::{FateLog, legs_of};
 use vg_fork::Fork;
 use vg_frame::{BufferMemory, Frame, FrameStore, MOST_NODES};
 use vg_hands::{HandFrame, HandPackets, Handoff};

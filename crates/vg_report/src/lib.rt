@@ -16,5 +16,5 @@ mod writing;
 pub use errors::{ReportCause, ReportError};
 pub use lists::{ErrorCounts, NameCounts, Names, PacketLines, TraceLines};
 pub use reading::read_report;
-pub use reports::{EndRef, LineRef, PacketEnd, PacketLine, Report};
+pub use reports::{EndRef, LegsRef, LineRef, PacketEnd, PacketLine, Report};
 pub use writing::write_report;

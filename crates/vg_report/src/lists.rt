@@ -1,12 +1,14 @@
 //! The lists of a report. Each is made of a vector, and all but the packets give it back; neither copies nor takes memory.
 ghost use Rattle.std.specs.Prelude.{◌≡◌, ◌<◌, ◌++◌, [], ◌∷◌, OnOk, Some, length, slice_get};
-ghost use Rattle.vg_report.specs.Named.{lines_of, AreNamed, IsNamed, end_by};
+ghost use Rattle.vg_fates.specs.Seen.{fate_seen};
+ghost use Rattle.vg_report.specs.Named.{lines_of, line_by, AreNamed, IsNamed, end_by};
 ghost use Rattle.vg_report.specs.Seen.{line_seen, end_seen};
 
-use crate::reports::{EndRef, LineRef, PacketEnd, PacketLine};
+use crate::reports::{EndRef, LegsRef, LineRef, PacketEnd, PacketLine};
 use std::alloc::{AllocError, Global};
 use std::marker::Model;
-use vg_model::{DropError, End, Fates, Name};
+use vg_fates::{FateList, FateRef};
+use vg_model::{DropError, End, Name};
 
 /// Interfaces or nodes by number, each its name and a count.
 #[derive(Drop)]
@@ -38,7 +40,7 @@ impl Model for ErrorCounts {
 /// The first may be kept as fates, whose ends are numbers in two lists of names; those that are added stand behind them.
 #[derive(Drop)]
 pub struct PacketLines {
-    fates: Fates,
+    fates: FateList,
     interfaces: Vec<Name>,
     nodes: Vec<Name>,
     added: Vec<PacketLine>,
@@ -156,7 +158,7 @@ impl PacketLines {
     {
         let alloc = *packets.allocator();
         PacketLines {
-            fates: Fates::from_vec(Vec::new(alloc)),
+            fates: FateList::new(alloc),
             interfaces: Vec::new(alloc),
             nodes: Vec::new(alloc),
             added: packets,
@@ -166,7 +168,7 @@ impl PacketLines {
     /// What became of packets with these fates, by the names of the interfaces and of the nodes.
     pub fn of_fates(
         alloc: Global,
-        fates: Fates,
+        fates: FateList,
         interfaces: Vec<Name>,
         nodes: Vec<Name>,
     ) -> PacketLines
@@ -185,7 +187,7 @@ impl PacketLines {
     pub fn len(&self) -> usize
         ensures { result ≡ length self.now }
     {
-        self.fates.as_slice().len() + self.added.len()
+        self.fates.len() + self.added.len()
     }
 
     /// What became of a packet.
@@ -193,18 +195,17 @@ impl PacketLines {
         requires { number < length self.now }
         ensures { slice_get self.now number ≡ Some (line_seen result) }
     {
-        let fates = self.fates.as_slice();
-        if number < fates.len() {
-            let fate = &fates[number];
-            return LineRef {
-                legs: &fate.legs,
-                congested: fate.congested,
-                end: named(self.interfaces.as_slice(), self.nodes.as_slice(), fate.end),
-            };
+        let fates = self.fates.len();
+        if number < fates {
+            return line_of(
+                self.interfaces.as_slice(),
+                self.nodes.as_slice(),
+                self.fates.view(number),
+            );
         }
-        let line = &self.added[number - fates.len()];
+        let line = &self.added[number - fates];
         LineRef {
-            legs: &line.legs,
+            legs: LegsRef::Kept(&line.legs),
             congested: line.congested,
             end: end_of(&line.end),
         }
@@ -220,6 +221,25 @@ impl PacketLines {
     {
         self.added.push(packet)?;
         Ok(())
+    }
+}
+
+// What became of a packet with this fate, by the names of interfaces and nodes.
+fn line_of<'a>(interfaces: &'a [Name], nodes: &'a [Name], fate: FateRef<'a>) -> LineRef<'a>
+    requires { IsNamed interfaces.now nodes.now (fate_seen fate).end }
+    ensures { line_seen result ≡ line_by interfaces.now nodes.now (fate_seen fate.entry) }
+{
+    match fate {
+        FateRef::Plain { leg, end, .. } => LineRef {
+            legs: LegsRef::One(leg),
+            congested: None,
+            end: named(interfaces, nodes, end),
+        },
+        FateRef::Other(fate) => LineRef {
+            legs: LegsRef::Kept(&fate.legs),
+            congested: fate.congested,
+            end: named(interfaces, nodes, fate.end),
+        },
     }
 }
 

@@ -1,7 +1,10 @@
 //! What a run did.
+ghost use Rattle.std.specs.Prelude.{◌≡◌, ◌≤◌, length};
+ghost use Rattle.vg_report.specs.Seen.{legs_seen};
 
 use crate::lists::{ErrorCounts, NameCounts, PacketLines, TraceLines};
-use vg_model::{DropError, Legs, Name};
+use std::slice;
+use vg_model::{DropError, Leg, Legs, Name};
 
 /// How a packet ended: transmitted on an interface, or dropped by a node.
 #[derive(Drop)]
@@ -28,15 +31,35 @@ pub enum EndRef<'a> {
     Dropped { node: &'a Name, error: DropError },
 }
 
+/// The legs of a packet: one in itself, or those that are kept elsewhere.
+#[derive(Clone, Copy)]
+pub enum LegsRef<'a> {
+    One(Leg),
+    Kept(&'a Legs),
+}
+
 /// What became of one packet, as [`PacketLine`], by what is kept elsewhere.
 #[derive(Clone, Copy)]
 pub struct LineRef<'a> {
     /// Its way over the workers.
-    pub legs: &'a Legs,
+    pub legs: LegsRef<'a>,
     /// Where it was dropped by congestion, how many frames the full handoff queue had accepted before.
     pub congested: Option<u64>,
     /// How it ended.
     pub end: EndRef<'a>,
+}
+
+impl LegsRef<'_> {
+    /// The legs as a slice.
+    pub fn as_slice(&self) -> &[Leg]
+        ensures legs { result.now ≡ legs_seen self.now }
+        ensures few { length result.now ≤ 4 }
+    {
+        match self {
+            LegsRef::One(leg) => slice::from_ref(leg),
+            LegsRef::Kept(legs) => legs.as_slice(),
+        }
+    }
 }
 
 /// What a run did.

@@ -7,6 +7,8 @@ mod barrier;
 #[cfg(test)]
 mod explain;
 #[cfg(test)]
+mod fates;
+#[cfg(test)]
 mod fib;
 #[cfg(test)]
 mod outside;

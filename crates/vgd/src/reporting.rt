@@ -112,9 +112,6 @@ fn lines(alloc: Global, graph: &Graph, fates: FateList) -> Result<PacketLines, A
 {
     let interfaces = interface_names(alloc, graph)?;
     let nodes = node_names(alloc, graph)?;
-    let Ok(fates) = fates.into_fates(alloc) else {
-        return Err(AllocError);
-    };
     Ok(PacketLines::of_fates(alloc, fates, interfaces, nodes))
 }
 
@@ -172,7 +169,7 @@ pub fn report(
         rests,
         seat,
     } = outcome;
-    // They were written; the fates take their memory.
+    // They were written; the report's text takes their memory.
     drop(sent);
     let report = Report {
         workers: options.workers,

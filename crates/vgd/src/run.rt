@@ -35,7 +35,7 @@ use vg_outside::{Folder, Gate};
 use vg_report::write_report;
 use vg_words::{Command, Run, read_words};
 
-// How many bytes a packet a list may have whose memory is kept: more than a log and a short packet, and less than a fate.
+// How many bytes a packet a list may have whose memory is kept: more than a log, a short packet or a line of the report.
 const KEPT: usize = 64;
 
 /// What a run gives: the savefile, the text of its report, and its end.

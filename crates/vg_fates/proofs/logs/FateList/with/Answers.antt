@@ -1,6 +1,6 @@
-use Rattle.std.proofs.Common.{◌≡◌, length, arith}
-use Rattle.vg_dispatch.proofs.LogLemmas.{joined_fates, joined_logged}
-use Rattle.vg_dispatch.proofs.logs.FateList.with.Goals as goal
+use Rattle.std.proofs.Common.{arith}
+use Rattle.vg_fates.proofs.LogLemmas.{joined_fates, joined_logged}
+use Rattle.vg_fates.proofs.logs.FateList.with.Goals as goal
 
 pub invariant_of-result : goal.invariant_of-result
 invariant_of-result c =

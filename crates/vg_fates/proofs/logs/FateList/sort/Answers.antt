@@ -3,10 +3,10 @@ use Rattle.std.specs.List.Sorted.{IsPermutation, IsNonDecreasingBy}
 use Rattle.std.proofs.lemmas.List.{take-append-le, take_all}
 use Rattle.std.proofs.lemmas.List.Sorted.{All-permutation, IsPermutation-map, IsPermutation-trans, IsNonDecreasingBy-from_sort_by_key}
 use Rattle.vg_model.specs.declared.fates.Fate.{Fate}
-use Rattle.vg_dispatch.specs.declared.logs.LogEntry.{LogEntry}
-use Rattle.vg_dispatch.specs.Logs.{fate_in, fates_in, IsLogged, AreLogged}
-use Rattle.vg_dispatch.proofs.LogLemmas.{fates_rise}
-use Rattle.vg_dispatch.proofs.logs.FateList.sort.Goals as goal
+use Rattle.vg_fates.specs.declared.logs.LogEntry.{LogEntry}
+use Rattle.vg_fates.specs.Logs.{fate_in, fates_in, IsLogged, AreLogged}
+use Rattle.vg_fates.proofs.LogLemmas.{fates_rise}
+use Rattle.vg_fates.proofs.logs.FateList.sort.Goals as goal
 
 -- what a slice of a whole list writes back
 written : (n : ℕ) (now old : List LogEntry) → length now ≡ n → take n (now ++ drop (length now) old) ≡ now

@@ -1,9 +1,9 @@
 use Rattle.std.proofs.Common.{◌≤◌, length}
 use Rattle.std.specs.List.Sorted.{IsPermutation}
-use Rattle.vg_dispatch.specs.declared.logs.LogEntry.{LogEntry}
-use Rattle.vg_dispatch.specs.Logs.{fate_in}
-use Rattle.vg_dispatch.proofs.LogLemmas.{AreInPlace}
-use Rattle.vg_dispatch.proofs.logs.put_in_place.Given as goal
+use Rattle.vg_fates.specs.declared.logs.LogEntry.{LogEntry}
+use Rattle.vg_fates.specs.Logs.{fate_in}
+use Rattle.vg_fates.proofs.LogLemmas.{AreInPlace}
+use Rattle.vg_fates.proofs.logs.put_in_place.Given as goal
 
 abbrev pub invariant-loop-pass : goal.invariant-loop-pass
 invariant-loop-pass l = record {

@@ -1,14 +1,15 @@
 //! What became of packets, as workers log it.
-ghost use Rattle.std.specs.Prelude.{◌≡◌, ◌+◌, ◌<◌, ◌≤◌, ◌++◌, ◌∷◌, [], ℕ, List, IfOk, IfSome, flat_map, length, map, All, Some, slice_get};
+ghost use Rattle.std.specs.Prelude.{◌≡◌, ◌+◌, ◌<◌, ◌≤◌, ◌^◌, ◌++◌, ◌∷◌, [], ℕ, List, IfOk, IfSome, flat_map, length, map, All, Some, slice_get};
 ghost use Rattle.std.specs.Bool.{OnTrue};
 ghost use Rattle.std.specs.List.{AllByRecursion};
 ghost use Rattle.std.specs.List.Sorted.{IsPermutation, IsNonDecreasingBy};
 ghost use Rattle.vg_model.specs.declared.fates.Fate.{Fate};
-ghost use Rattle.vg_dispatch.specs.Logs.{fate_in, fates_in, IsLogged, AreLogged, CanMove, moved_behind};
+ghost use Rattle.vg_fates.specs.Logs.{fate_in, fates_in, IsLogged, AreLogged, CanMove, moved_behind};
+ghost use Rattle.vg_fates.specs.Seen.{fate_seen};
 
 use std::alloc::{AllocError, Global};
 use std::marker::Model;
-use vg_model::{End, Fate, Fates, Leg, Legs, Memory};
+use vg_model::{End, Fate, Leg, Legs, Memory};
 
 /// A fate as it is logged: in itself where the packet had one leg and no queue refused it, and else the place of the fate among the
 /// others of its log.
@@ -25,6 +26,15 @@ pub enum LogEntry {
     },
 }
 
+/// A fate of a list, where the list keeps it.
+#[derive(Clone, Copy)]
+pub enum FateRef<'a> {
+    /// That of a packet with one leg that no queue refused.
+    Plain { number: u32, leg: Leg, end: End },
+    /// Any other.
+    Other(&'a Fate),
+}
+
 /// The fates that a worker logs: those so far, and for how many there is room.
 #[derive(Drop)]
 pub struct FateLog {
@@ -35,7 +45,7 @@ pub struct FateLog {
 
 impl Model for FateLog {
     ghost use Rattle.std.specs.Prelude.{◌≤◌, length, vec_capacity};
-    ghost use Rattle.vg_dispatch.specs.Logs.{LogBook, fates_in, AreLogged};
+    ghost use Rattle.vg_fates.specs.Logs.{LogBook, fates_in, AreLogged};
 
     ghost Value = { LogBook };
 
@@ -55,7 +65,7 @@ pub struct FateList {
 impl Model for FateList {
     ghost use Rattle.std.specs.Prelude.{List};
     ghost use Rattle.vg_model.specs.declared.fates.Fate.{Fate};
-    ghost use Rattle.vg_dispatch.specs.Logs.{fates_in, AreLogged};
+    ghost use Rattle.vg_fates.specs.Logs.{fates_in, AreLogged};
 
     ghost Value = { List Fate };
 
@@ -82,8 +92,12 @@ fn plain(fate: &Fate) -> Option<LogEntry>
 }
 
 impl FateLog {
-    // No fates, and room for so many.
-    pub(crate) fn new(alloc: Global, room: usize) -> Result<FateLog, Memory>
+    /// No fates, and room for so many.
+    ///
+    /// # Errors
+    ///
+    /// [`Memory`] where memory runs out.
+    pub fn new(alloc: Global, room: usize) -> Result<FateLog, Memory>
         requires { room ≤ 65536 }
         ensures { IfOk result (λ log. log ≡ record { items = []; room = room }) }
     {
@@ -100,15 +114,15 @@ impl FateLog {
         })
     }
 
-    // How many fates were logged.
-    pub(crate) fn len(&self) -> usize
+    /// How many fates were logged.
+    pub fn len(&self) -> usize
         ensures { result ≡ length self.now.items }
     {
         self.entries.len()
     }
 
-    // Logs a fate. It takes no memory.
-    pub(crate) fn push(&mut self, fate: Fate)
+    /// Logs a fate. It takes no memory.
+    pub fn push(&mut self, fate: Fate)
         requires { length self.old.items < self.old.room }
         ensures { self.new ≡ record self.old { items = self.old.items ++ fate ∷ [] } }
     {
@@ -122,8 +136,8 @@ impl FateLog {
         }
     }
 
-    // The fates that were logged.
-    pub(crate) fn into_list(self) -> FateList
+    /// The fates that were logged.
+    pub fn into_list(self) -> FateList
         ensures { result ≡ self.items }
     {
         let FateLog {
@@ -174,7 +188,7 @@ fn put_in_place(entries: &mut [LogEntry], others: &[Fate]) -> bool
 }
 
 /// The legs of a packet once more.
-pub(crate) fn legs_of(legs: &[Leg]) -> Legs
+pub fn legs_of(legs: &[Leg]) -> Legs
     requires { length legs.now ≤ 4 }
     ensures { result ≡ legs.now }
 {
@@ -240,6 +254,16 @@ fn followed_by(
 }
 
 impl FateList {
+    /// No fates.
+    pub fn new(alloc: Global) -> FateList
+        ensures { result ≡ [] }
+    {
+        FateList {
+            entries: Vec::new(alloc),
+            others: Vec::new(alloc),
+        }
+    }
+
     /// The fates of all these lists, one list behind the other.
     ///
     /// # Errors
@@ -250,10 +274,7 @@ impl FateList {
     {
         let mut lists = lists.into_iter();
         let Some(mut fates) = lists.next() else {
-            return Ok(FateList {
-                entries: Vec::new(alloc),
-                others: Vec::new(alloc),
-            });
+            return Ok(FateList::new(alloc));
         };
         for list in lists {
             fates = fates.with(list)?;
@@ -290,7 +311,8 @@ impl FateList {
 
     /// How many fates there are.
     pub fn len(&self) -> usize
-        ensures { result ≡ length self.now }
+        ensures count { result ≡ length self.now }
+        ensures few { result < 2 ^ 63 }
     {
         self.entries.len()
     }
@@ -301,6 +323,26 @@ impl FateList {
         ensures { slice_get self.now k ≡ Some result }
     {
         fate_of(self.others.as_slice(), self.entries[k])
+    }
+
+    /// One of them, by its place in the list, where it is kept: nothing is copied but the fate of a packet with one leg.
+    pub fn view(&self, k: usize) -> FateRef<'_>
+        requires { k < length self.now }
+        ensures { slice_get self.now k ≡ Some (fate_seen result) }
+    {
+        match self.entries[k] {
+            LogEntry::Plain {
+                worker,
+                end,
+                number,
+                generation,
+            } => FateRef::Plain {
+                number,
+                leg: Leg { worker, generation },
+                end,
+            },
+            LogEntry::Other { place } => FateRef::Other(&self.others[place as usize]),
+        }
     }
 
     /// Puts the fates in the order of their numbers. Those of all packets of a capture aren't sorted: each goes to its place.
@@ -314,26 +356,5 @@ impl FateList {
         let others = self.others.as_slice();
         self.entries
             .sort_unstable_by_key(|entry| number_of(others, *entry));
-    }
-
-    /// The same fates, one behind the other in memory.
-    ///
-    /// # Errors
-    ///
-    /// [`Memory`] where memory runs out.
-    pub fn into_fates(self, alloc: Global) -> Result<Fates, Memory>
-        ensures { IfOk result (λ fates. fates ≡ self) }
-    {
-        let FateList { entries, others } = self;
-        let Ok(mut fates) = Vec::with_capacity(alloc, entries.len()) else {
-            return Err(Memory);
-        };
-        for k in 0..entries.len() {
-            let fate = fate_of(others.as_slice(), entries[k]);
-            let Ok(()) = fates.push(fate) else {
-                return Err(Memory);
-            };
-        }
-        Ok(Fates::from_vec(fates))
     }
 }

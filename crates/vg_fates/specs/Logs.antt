@@ -4,8 +4,8 @@ use Rattle.vg_model.specs.declared.fates.Fate.{Fate}
 use Rattle.vg_model.specs.declared.fates.Leg.{Leg}
 use Rattle.vg_model.specs.declared.fates.End.{End}
 use Rattle.vg_model.specs.declared.fates.End.TheVariants as ends
-use Rattle.vg_dispatch.specs.declared.logs.LogEntry.{LogEntry}
-use Rattle.vg_dispatch.specs.declared.logs.LogEntry.TheVariants.{Plain, Other}
+use Rattle.vg_fates.specs.declared.logs.LogEntry.{LogEntry}
+use Rattle.vg_fates.specs.declared.logs.LogEntry.TheVariants.{Plain, Other}
 
 -- the fates that were logged so far, and for how many there is room
 pub record LogBook : Type 0 where

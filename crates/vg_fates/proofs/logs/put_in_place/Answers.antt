@@ -1,8 +1,8 @@
 use Rattle.std.proofs.Common.{rules, ap, ◌∙◌, arith}
 use Rattle.std.proofs.lemmas.List.Sorted.{IsPermutation-trans}
-use Rattle.vg_dispatch.specs.declared.logs.LogEntry.{LogEntry}
-use Rattle.vg_dispatch.specs.Logs.{fate_in}
-use Rattle.vg_dispatch.proofs.logs.put_in_place.Goals as goal
+use Rattle.vg_fates.specs.declared.logs.LogEntry.{LogEntry}
+use Rattle.vg_fates.specs.Logs.{fate_in}
+use Rattle.vg_fates.proofs.logs.put_in_place.Goals as goal
 
 pub loop-pass-preserved : goal.loop-pass-preserved
 loop-pass-preserved c =

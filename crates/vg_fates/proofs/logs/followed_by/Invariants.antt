@@ -1,8 +1,8 @@
 use Rattle.std.proofs.Common.{◌≡◌, ◌++◌, map}
 use Rattle.std.specs.Vec.Iter.{into_iter_items}
 use Rattle.std.specs.List.{AllByRecursion}
-use Rattle.vg_dispatch.specs.Logs.{CanMove, moved_behind}
-use Rattle.vg_dispatch.proofs.logs.followed_by.Given as goal
+use Rattle.vg_fates.specs.Logs.{CanMove, moved_behind}
+use Rattle.vg_fates.proofs.logs.followed_by.Given as goal
 
 abbrev pub invariant-loop-entry : goal.invariant-loop-entry
 invariant-loop-entry l = record {

@@ -1,9 +1,8 @@
-use Rattle.std.proofs.Common.{[], ◌∷◌, ◌++◌, length, sym, ap, ◌∙◌, refl, arith}
+use Rattle.std.proofs.Common.{[], ◌∷◌, ◌++◌, length, sym, ap, ◌∙◌, arith}
 use Rattle.std.proofs.lemmas.List.{append-nil, length-append}
-use Rattle.vg_model.specs.declared.fates.Fate.{Fate}
-use Rattle.vg_dispatch.specs.Logs.{LogBook}
-use Rattle.vg_dispatch.proofs.LogLemmas.{fates_more, logged_more, last_fate}
-use Rattle.vg_dispatch.proofs.logs.FateLog.push.Goals as goal
+use Rattle.vg_fates.specs.Logs.{LogBook}
+use Rattle.vg_fates.proofs.LogLemmas.{fates_more, logged_more, last_fate}
+use Rattle.vg_fates.proofs.logs.FateLog.push.Goals as goal
 
 pub invariant_of-self : goal.invariant_of-self
 invariant_of-self c =

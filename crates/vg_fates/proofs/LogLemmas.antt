@@ -5,9 +5,9 @@ use Rattle.std.specs.List.Sorted.{IsNonDecreasingBy}
 use Rattle.std.proofs.lemmas.List.{map_push, length-map, get_or_append_left, get_or-append-add, get_or-map}
 use Rattle.std.proofs.lemmas.List.Elements.{All-tail, All-push, All-append, All-weaker, All-map, recursion_from_All}
 use Rattle.vg_model.specs.declared.fates.Fate.{Fate}
-use Rattle.vg_dispatch.specs.declared.logs.LogEntry.{LogEntry}
-use Rattle.vg_dispatch.specs.declared.logs.LogEntry.TheVariants.{Plain, Other}
-use Rattle.vg_dispatch.specs.Logs.{fate_in, fates_in, IsLogged, AreLogged, CanMove, moved_behind, no_fate}
+use Rattle.vg_fates.specs.declared.logs.LogEntry.{LogEntry}
+use Rattle.vg_fates.specs.declared.logs.LogEntry.TheVariants.{Plain, Other}
+use Rattle.vg_fates.specs.Logs.{fate_in, fates_in, IsLogged, AreLogged, CanMove, moved_behind, no_fate}
 
 -- with more others behind those that there are
 fate_kept : (others more : List Fate) (e : LogEntry) → IsLogged (length others) e → fate_in (others ++ more) e ≡ fate_in others e
