@@ -13,7 +13,7 @@ use Rattle.vg_report.specs.declared.reports.Report.{Report}
 use Rattle.vg_report.specs.Lawful.{IsLawful}
 use Rattle.vg_report.specs.Reading as reading
 use Rattle.vg_report.specs.Text.{text}
-use Rattle.vg_report.proofs.PrintTextLemmas.{reads_back}
+use Rattle.vg_report.proofs.ReadTextLemmas.{reads_lawful}
 use Rattle.vg_replay.specs.Replays.{told, AreReplayed}
 use Rattle.vg_replay.specs.declared.replaying.Replayed.{Replayed}
 use Rattle.vg_replay.proofs.InsideLemmas.{IsOutcomeWithin}
@@ -23,9 +23,10 @@ use Rattle.vg_check.specs.declared.verdicts.Verdict.TheVariants as verdicts
 use Rattle.vg_check.specs.Hands.{IsOnWorkers, IsToWorker, AreRefusalsBelow, IsFirstUnlawful}
 use Rattle.vg_check.specs.Output.{frames_of, choices_of}
 use Rattle.vg_check.specs.Points.{IsHead, ArePushesLawful}
-use Rattle.vg_check.specs.Reports.{reported, CanReport}
+use Rattle.vg_check.specs.Reports.{reported, with_counts, CanReport}
 use Rattle.vg_check.specs.Saves.{sent_from}
 use Rattle.vg_check.specs.Verdicts.{Case, task_by, report_by, IsHeaded, AreTravelled, ArePushed, IsVerdict, IsAccepted, IsReadAs}
+use Rattle.vg_check.proofs.CountedLemmas.{same_text}
 use Rattle.vg_check.proofs.JourneyLemmas.{IsOwn, own_journeys}
 use Rattle.vg_check.proofs.ReportLemmas.{IsKnown, lines_named, reported_is, journey_in, can_report, many}
 use Rattle.vg_check.proofs.ToldLemmas.{told_of, as_many, told_at, all_pushes, first_refusal, sent_same}
@@ -44,7 +45,7 @@ module _ (case : Case) (known : IsKnown case) (report : Report) (replayed : Repl
       let j = get_some are.js k (let h = slice_get_within replayed.trips k t at in omega (arith, h, e)) in
       let same : told t ≡ told_of j.0 = told_at replayed.trips are.js are.trips k t j.0 at j.1 in
       let inside = (journey_in case known report replayed lawful headed.head are k j.0 j.1).2 in
-      let owned = own_journeys case.visit known.never report.workers lawful.workers.0 case.plan.graphs known.plan.generations (frames_of case.capture) (choices_of report) are.js are.taken.are_journeys in
+      let owned = own_journeys case.visit report.workers lawful.workers.0 case.plan.graphs known.plan.generations (frames_of case.capture) (choices_of report) are.js are.taken.are_journeys in
       let own : IsOwn report.workers (length (frames_of case.capture)) j.0 = all_at (IsOwn report.workers (length (frames_of case.capture))) are.js k j.0 j.1 owned.0 in
       let most : report.workers ≤ 8 = lawful.workers.1 in
       record {
@@ -94,14 +95,10 @@ module _ (case : Case) (known : IsKnown case) (report : Report) (replayed : Repl
     same_report e = e ∙ made_is
 
     -- the report is another, and so is its text
-    pub other_by : IsLawful (reported report replayed) → (report ≡ reported report replayed → ⊥) → IsVerdict case verdicts.Text
+    pub other_by : IsLawful (with_counts (reported report replayed)) → (report ≡ reported report replayed → ⊥) → IsVerdict case verdicts.Text
     other_by lawful_made apart = text_by (λ e.
-        let one : reading.report_of case.report ≡ Ok report = headed.is_report in
-        let other : reading.report_of case.report ≡ Ok (reported report replayed) = ap reading.report_of e ∙ reads_back (reported report replayed) lawful_made in
-        apart (same_ok report (reported report replayed) (sym one ∙ other)))
-      where
-        same_ok : {E : Type 0} (a b : Report) → ◌≡◌ {A = Result Report E} (Ok a) (Ok b) → a ≡ b
-        same_ok a b e = cc
+        let read : text report ≡ case.report = (reads_lawful case.report report headed.is_report).1 in
+        apart (same_text report (reported report replayed) lawful lawful_made (read ∙ e)))
 
     saved_is : sent_from 0 replayed.trips ≡ sent are.js
     saved_is = sent_same 0 replayed.trips are.js are.trips (λ k j at.
@@ -169,7 +166,7 @@ module _ (case : Case) (report : Report) (replayed : Replayed) (trips : List Cou
 
       module _ (same : Bool) (same_is : IsTrue same ↔ (report ≡ reported report replayed)) where
         -- the report is another
-        pub other_text : IsLawful (reported report replayed) → same ≡ false → IsVerdict case verdicts.Text
+        pub other_text : IsLawful (with_counts (reported report replayed)) → same ≡ false → IsVerdict case verdicts.Text
         other_text lawful_made apart = other_by case m.known report replayed m.lawful m.headed m.are below lawful_made (iff_false same_is apart)
 
         -- it is the same

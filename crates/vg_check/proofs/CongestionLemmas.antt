@@ -13,7 +13,7 @@ use Rattle.vg_model.specs.Hash.{target_worker}
 use Rattle.vg_model.specs.Visit.{Visit}
 use Rattle.vg_model.specs.Valid.{IsValid}
 use Rattle.vg_model.specs.Leg.{Outcome, Sent, Dropped, Handed, Way, Move, Onward, Over, handed, move_of, joined, after_visit, leg_within, most_legs, first_slot, ends_at}
-use Rattle.vg_model.specs.Journey.{Journey, Course, Choice, journey, journeys_from, started, first_leg, leg_from, legs_from, handed_over, then_course, longest_packet, goes_together, end_of}
+use Rattle.vg_model.specs.Journey.{Journey, Course, Choice, journey, journeys, journeys_from, started, first_leg, leg_from, legs_from, handed_over, then_course, longest_packet, goes_together, end_of}
 use Rattle.vg_model.proofs.Journeys.{map_some, then_some}
 use Rattle.vg_capture.specs.declared.captures.Capture.{Capture}
 use Rattle.vg_report.specs.declared.reports.Report.{Report}
@@ -23,11 +23,16 @@ use Rattle.vg_report.specs.declared.reports.PacketEnd.TheVariants as ends
 use Rattle.vg_check.specs.Output.{Setting, IsOutput, report_of, choices_of, frames_of, named_end, packet_line_of, last_graph}
 use Rattle.vg_check.specs.OneWorker.{alone, IsOwnEnd, HasOwnEnds}
 use Rattle.vg_check.specs.Congestion.{IsOwnStep, NeverCongests, IsNoDropBy, NamesNoDropBy, NamesNoRefusal}
-use Rattle.vg_check.proofs.CourseLemmas.{IsOwnLast}
-use Rattle.vg_check.proofs.JourneyLemmas.{journey_has}
+use Rattle.vg_check.proofs.JourneyLemmas.{IsCountedEnd, journey_has}
 use Rattle.vg_check.proofs.AlikeLemmas.{sends_alike}
 
 -- ---- legs
+
+-- an end that is no drop by congestion, or a packet that is handed over
+abbrev pub IsOwnLast : Outcome → Type 0
+IsOwnLast (Sent interface) = Unit {0}
+IsOwnLast (Dropped node error) = error ≢ errors.Congestion
+IsOwnLast (Handed node worker) = Unit {0}
 
 abbrev IsOwnMove : Move → Type 0
 IsOwnMove (Onward to) = Unit {0}
@@ -103,6 +108,32 @@ module _ (visit : Visit) (never : NeverCongests visit) (workers : ℕ) where
       own_legs graphs (number % workers) 1 g later _ course (λ w f. own_first s.0 (number % workers) (fresh number bytes) w f) s.2
 
   -- ---- packets
+
+  -- a drop by congestion stands exactly with a count of a queue that was full
+  counted_end : (accepted : Option ℕ) (o : Outcome) → IsOwnLast o → goes_together accepted o ≡ true → IsCountedEnd accepted (end_of o)
+  counted_end None (Sent interface) own t = refl
+  counted_end None (Dropped node error) own t = (λ some. absurd (false≢true some), λ e. absurd (own e))
+  counted_end None (Handed node worker) own t = absurd (false≢true t)
+  counted_end (Some count) (Sent interface) own t = absurd (false≢true t)
+  counted_end (Some count) (Dropped node error) own t = absurd (false≢true t)
+  counted_end (Some count) (Handed node worker) own t = (λ some. refl, λ e. refl)
+
+  counted_from : (graphs : List Graph) (number : ℕ) (packets : List (List ℕ)) (choices : List Choice) (js : List Journey) → journeys_from visit graphs workers number packets choices ≡ Some js
+      → AllByRecursion (λ (j : Journey). IsCountedEnd j.accepted (end_of j.course.outcome)) js
+  counted_from graphs number [] [] js e = subst (AllByRecursion (λ (j : Journey). IsCountedEnd j.accepted (end_of j.course.outcome))) (same_Some _ _ e) tt
+  counted_from graphs number [] (choice ∷ choices) js e = absurd (none-some js e)
+  counted_from graphs number (bytes ∷ packets) [] js e = absurd (none-some js e)
+  counted_from graphs number (bytes ∷ packets) (choice ∷ choices) js e =
+      let first = then_some (λ j. option_map (λ js. j ∷ js) (journeys_from visit graphs workers (suc number) packets choices)) (journey visit graphs workers number bytes choice) js e in
+      let others = map_some (λ js. first.0 ∷ js) (journeys_from visit graphs workers (suc number) packets choices) js first.2 in
+      let has = journey_has visit graphs workers number bytes choice first.0 first.1 in
+      let here = counted_end first.0.accepted first.0.course.outcome (own_course graphs number bytes choice.generations first.0.course has.course) has.together in
+      let rest = counted_from graphs (suc number) packets choices others.0 others.1 in
+      subst (AllByRecursion (λ (j : Journey). IsCountedEnd j.accepted (end_of j.course.outcome))) others.2 (here, rest)
+
+  pub counted_ends : (graphs : List Graph) (packets : List (List ℕ)) (choices : List Choice) (js : List Journey) → journeys visit graphs workers packets choices ≡ Some js
+      → AllByRecursion (λ (j : Journey). IsCountedEnd j.accepted (end_of j.course.outcome)) js
+  counted_ends graphs packets choices js e = counted_from graphs 0 packets choices js e
 
   no_congestion : (g : Graph) (accepted : Option ℕ) (o : Outcome) → IsOwnLast o → accepted ≡ None → goes_together accepted o ≡ true → IsNoDropBy errors.Congestion (named_end g (end_of o))
   no_congestion g accepted (Sent interface) own none t = tt

@@ -17,7 +17,7 @@ use Rattle.vg_model.specs.Lawful.{AreLawful, StartsAt, NeverFall, IsRefusalLawfu
 use Rattle.vg_model.specs.Count.{trace, drop_visit}
 use Rattle.vg_model.proofs.Journeys.{map_some, then_some}
 use Rattle.vg_plan.specs.Plan.{IsGeneration}
-use Rattle.vg_check.proofs.CourseLemmas.{NeverCongests, IsOwnLast, course_of}
+use Rattle.vg_check.proofs.CourseLemmas.{course_of}
 
 -- the generations of legs
 abbrev pub generations : List Leg → List ℕ
@@ -98,19 +98,24 @@ chosen_are visit graphs workers packets choices js e = chosen_from visit graphs 
 -- ---- what a journey is like
 
 -- a drop by congestion stands exactly with a count of a queue that was full
-abbrev pub IsOwnEnd : Option ℕ → End → Type 0
-IsOwnEnd accepted (ends.Tx interface) = accepted ≡ None
-IsOwnEnd accepted (ends.Dropped node error) = IsSome accepted ↔ (error ≡ Congestion)
+abbrev pub IsCountedEnd : Option ℕ → End → Type 0
+IsCountedEnd accepted (ends.Tx interface) = accepted ≡ None
+IsCountedEnd accepted (ends.Dropped node error) = IsSome accepted ↔ (error ≡ Congestion)
 
-own_end : (accepted : Option ℕ) (o : Outcome) → IsOwnLast o → goes_together accepted o ≡ true → IsOwnEnd accepted (end_of o)
-own_end None (Sent interface) own t = refl
-own_end None (Dropped node error) own t = (λ some. absurd (false≢true some), λ e. absurd (own e))
-own_end None (Handed node worker) own t = absurd (false≢true t)
-own_end (Some count) (Sent interface) own t = absurd (false≢true t)
-own_end (Some count) (Dropped node error) own t = absurd (false≢true t)
-own_end (Some count) (Handed node worker) own t = (λ some. refl, λ e. refl)
+-- a count of a queue that was full stands only with a drop by congestion
+abbrev pub IsCountAt : Option ℕ → End → Type 0
+IsCountAt accepted (ends.Tx interface) = accepted ≡ None
+IsCountAt accepted (ends.Dropped node error) = IsSome accepted → error ≡ Congestion
 
--- a journey of one to four legs, on workers that are there, whose trace is not too long
+count_at : (accepted : Option ℕ) (o : Outcome) → goes_together accepted o ≡ true → IsCountAt accepted (end_of o)
+count_at None (Sent interface) t = refl
+count_at None (Dropped node error) t = λ some. absurd (false≢true some)
+count_at None (Handed node worker) t = absurd (false≢true t)
+count_at (Some count) (Sent interface) t = absurd (false≢true t)
+count_at (Some count) (Dropped node error) t = absurd (false≢true t)
+count_at (Some count) (Handed node worker) t = λ some. refl
+
+-- a journey of one to four legs, on workers that are there, whose trace is not too long, with a count only at a drop by congestion
 pub record IsOwn (workers most : ℕ) (j : Journey) : Type 0 where
   pub number : j.number < most
   pub some : 1 ≤ length j.course.legs
@@ -118,7 +123,7 @@ pub record IsOwn (workers most : ℕ) (j : Journey) : Type 0 where
   pub there : AllByRecursion (λ (leg : Leg). leg.worker < workers) j.course.legs
   pub visited : 1 ≤ length (trace j)
   pub few_visits : length (trace j) ≤ 272
-  pub end : IsOwnEnd j.accepted (end_of j.course.outcome)
+  pub count : IsCountAt j.accepted (end_of j.course.outcome)
 
 -- a drop adds one visit at most
 one_visit : (end : End) → length (drop_visit end) ≤ 1
@@ -129,11 +134,11 @@ one_visit (ends.Dropped node error) = by_test (node == error_drop)
     by_test true = omega arith
     by_test false = omega arith
 
-module _ (visit : Visit) (never : NeverCongests visit) (workers : ℕ) (some : 0 < workers) (graphs : List Graph) (sound : AllByRecursion IsGeneration graphs) where
+module _ (visit : Visit) (workers : ℕ) (some : 0 < workers) (graphs : List Graph) (sound : AllByRecursion IsGeneration graphs) where
   own_journey : (most number : ℕ) (bytes : List ℕ) (choice : Choice) (j : Journey) → number < most → journey visit graphs workers number bytes choice ≡ Some j → IsOwn workers most j
   own_journey most number bytes choice j below e =
       let has = journey_has visit graphs workers number bytes choice j e in
-      let course = course_of visit never workers some graphs sound number bytes choice.generations j.course has.course in
+      let course = course_of visit workers some graphs sound number bytes choice.generations j.course has.course in
       let number_is : j.number ≡ number = has.number_is in
       let few : 1 + length j.course.legs ≤ 5 = course.few in
       let visited : 1 ≤ length j.course.visits = course.visited in
@@ -147,7 +152,7 @@ module _ (visit : Visit) (never : NeverCongests visit) (workers : ℕ) (some : 0
         there = course.there;
         visited = omega (arith, whole, visited);
         few_visits = omega (arith, whole, few, few_visits, last);
-        end = own_end j.accepted j.course.outcome course.own has.together;
+        count = count_at j.accepted j.course.outcome has.together;
       }
 
   own_from : (most number : ℕ) (packets : List (List ℕ)) (choices : List Choice) (js : List Journey) → number + length packets ≤ most

@@ -1,14 +1,15 @@
--- The report of journeys under lawful choices is lawful.
-use Rattle.std.proofs.Common.{◌≡◌, ℕ, zero, suc, ◌+◌, ◌*◌, ◌<◌, ◌≤◌, ◌^◌, Bool, true, false, cond, List, [], ◌∷◌, ◌++◌, length, map, take, refl, sym, ap, subst, ◌∙◌, arith}
+-- The report of journeys under lawful choices is lawful, but for counts that drops by congestion lack, and whole where none lacks one.
+use Rattle.std.proofs.Common.{◌≡◌, ◌↔◌, ℕ, zero, suc, ◌+◌, ◌*◌, ◌<◌, ◌≤◌, ◌^◌, Bool, true, false, cond, List, [], ◌∷◌, ◌++◌, length, map, take, refl, sym, ap, subst, ◌∙◌, arith}
 use Rattle.std.specs.Prelude.{filter, flat_map, nat_lt, bytes_eq, slice_get, Option, Some, None, IsSome, IfSome, option_map, unwrap_or}
 use Rattle.std.specs.List.{AllByRecursion, IsDistinct, enumerate_from, position_from}
-use Rattle.std.proofs.lemmas.Bool.{ltb-true}
+use Rattle.std.proofs.lemmas.Bool.{ltb-true, false≢true}
 use Rattle.std.proofs.lemmas.List.{length-map, length-take}
 use Rattle.std.proofs.lemmas.List.FromFn.{length-enumerate_from}
 use Rattle.std.proofs.lemmas.List.Sums.{count_by-le-length}
 use Rattle.std.proofs.lemmas.Option.{none-some, slice_get-map, slice_get_within}
 use Rattle.std.proofs.lemmas.Slice.Eq.{bytes_eq-Decides}
 use Rattle.vg_model.specs.declared.kinds.DropError.{DropError}
+use Rattle.vg_model.specs.declared.kinds.DropError.TheVariants.{Congestion}
 use Rattle.vg_model.specs.declared.fates.End.{End}
 use Rattle.vg_model.specs.declared.fates.End.TheVariants as fate_ends
 use Rattle.vg_model.specs.declared.fates.Leg.{Leg}
@@ -19,11 +20,17 @@ use Rattle.vg_model.specs.Journey.{Journey, end_of}
 use Rattle.vg_model.specs.Count.{trace, node_count, error_count, interface_count, is_drop, is_sent_on}
 use Rattle.vg_model.proofs.Journeys.{map_some}
 use Rattle.vg_report.specs.declared.reports.Report.{Report}
+use Rattle.vg_report.specs.declared.reports.PacketEnd.{PacketEnd}
+use Rattle.vg_report.specs.declared.reports.PacketEnd.TheVariants as packet_ends
+use Rattle.vg_report.specs.Forms.{is_congestion}
 use Rattle.vg_report.specs.Lawful.{AreErrorsFrom, IsDeclared, IsEndLawful, IsPacketLawful, IsTraceLawful, IsLawful, names, number_of, error_place}
+use Rattle.vg_report.proofs.LineShows.{congestion_is}
 use Rattle.vg_journeys.specs.Ends.{IsEndIn}
 use Rattle.vg_plan.specs.Plan.{IsGeneration}
 use Rattle.vg_check.specs.Output.{Setting, report_of, node_errors, packet_line_of, named_end, node_name, interface_name, last_graph}
-use Rattle.vg_check.proofs.JourneyLemmas.{IsOwn, IsOwnEnd, IsChosen}
+use Rattle.vg_check.specs.Reports.{zero_where, count_with, with_count, with_counts}
+use Rattle.vg_check.proofs.CountedLemmas.{IsCounted, counted_drop, counted_report}
+use Rattle.vg_check.proofs.JourneyLemmas.{IsOwn, IsCountedEnd, IsCountAt, IsChosen}
 
 -- the names of counts are those of what is counted
 names_are : {X : Type 0} (name_of : X → List ℕ) (count : ℕ → ℕ) (k : ℕ) (xs : List X)
@@ -115,23 +122,34 @@ module _ {X : Type 0} (name_of : X → List ℕ) (xs : List X) (ns : List (List 
       let named : unwrap_or (option_map name_of (slice_get xs i)) [] ≡ name_of entry.0 = ap (λ o. unwrap_or (option_map name_of o) []) entry.1 in
       subst (IsDeclared ns) (sym named) (subst IsSome (sym (declared_entry i entry.0 entry.1)) refl)
 
--- what a packet's line says of its end
-end_lawful : (g : Graph) (interfaces nodes : List (List ℕ)) (congested : Option ℕ) (end : End) → IsEndIn g end → IsOwnEnd congested end
+-- what a packet's line says of its end, with a count at a drop by congestion
+end_lawful : (g : Graph) (interfaces nodes : List (List ℕ)) (congested : Option ℕ) (end : End) → IsEndIn g end → IsCountAt congested end
     → ((i : ℕ) → i < length g.interfaces → IsDeclared interfaces (interface_name g i)) → ((n : ℕ) → n < length g.nodes → IsDeclared nodes (node_name g n))
-    → IsEndLawful interfaces nodes congested (named_end g end)
-end_lawful g interfaces nodes congested (fate_ends.Tx i) within own interface node = (interface i within, own)
-end_lawful g interfaces nodes congested (fate_ends.Dropped n error) within own interface node = (node n within, own)
+    → IsEndLawful interfaces nodes (count_with congested (named_end g end)) (named_end g end)
+end_lawful g interfaces nodes None (fate_ends.Tx i) within count interface node = (interface i within, refl)
+end_lawful g interfaces nodes (Some accepted) (fate_ends.Tx i) within count interface node = (interface i within, count)
+end_lawful g interfaces nodes (Some accepted) (fate_ends.Dropped n error) within count interface node = (node n within, (λ some. count some, λ e. refl))
+end_lawful g interfaces nodes None (fate_ends.Dropped n error) within count interface node = (node n within, by_test (is_congestion error) refl)
+  where
+    by_test : (b : Bool) → is_congestion error ≡ b → IsSome (zero_where b) ↔ (error ≡ Congestion)
+    by_test true e = (λ some. congestion_is error e, λ same. refl)
+    by_test false e = (λ some. absurd (false≢true some), λ same. absurd (false≢true (sym e ∙ ap is_congestion same)))
 
--- a count that isn't there isn't large
-small_count : (accepted : Option ℕ) → ((t : ℕ) → accepted ≡ Some t → t < 2 ^ 62) → IfSome accepted (λ t. t < 2 ^ 62)
-small_count None h = tt
-small_count (Some t) h = h t refl
+-- a count that isn't there isn't large, and 0 isn't
+small_count : (accepted : Option ℕ) (end : PacketEnd) → ((t : ℕ) → accepted ≡ Some t → t < 2 ^ 62) → IfSome (count_with accepted end) (λ t. t < 2 ^ 62)
+small_count (Some t) end h = h t refl
+small_count None (packet_ends.Tx interface) h = tt
+small_count None (packet_ends.Dropped node error) h = by_test (is_congestion error)
+  where
+    by_test : (b : Bool) → IfSome (zero_where b) (λ t. t < 2 ^ 62)
+    by_test true = omega arith
+    by_test false = tt
 
--- the packets' lines
+-- the packets' lines, with counts at drops by congestion
 lines_lawful : (g : Graph) (workers most count : ℕ) (r : Report) (js : List Journey) → r.workers ≡ workers → r.generations ≡ count
     → AllByRecursion (IsOwn workers most) js → AllByRecursion (IsChosen count) js → AllByRecursion (λ (j : Journey). IsEndIn g (end_of j.course.outcome)) js
     → ((i : ℕ) → i < length g.interfaces → IsDeclared (names r.interfaces) (interface_name g i)) → ((n : ℕ) → n < length g.nodes → IsDeclared (names r.nodes) (node_name g n))
-    → AllByRecursion (IsPacketLawful r) (map (packet_line_of g) js)
+    → AllByRecursion (IsPacketLawful r) (map with_count (map (packet_line_of g) js))
 lines_lawful g workers most count r [] w gs own chosen ends interface node = tt
 lines_lawful g workers most count r (j ∷ js) w gs own chosen ends interface node = (
   record {
@@ -139,8 +157,8 @@ lines_lawful g workers most count r (j ∷ js) w gs own chosen ends interface no
     few = own.0.few;
     workers = subst (λ n. AllByRecursion (λ (leg : Leg). leg.worker < n) j.course.legs) (sym w) own.0.there;
     generations = subst (λ n. AllByRecursion (λ (leg : Leg). leg.generation < n) j.course.legs) (sym gs) chosen.0.generations;
-    congested = small_count j.accepted chosen.0.accepted;
-    end = end_lawful g (names r.interfaces) (names r.nodes) j.accepted (end_of j.course.outcome) ends.0 own.0.end interface node;
+    congested = small_count j.accepted (named_end g (end_of j.course.outcome)) chosen.0.accepted;
+    end = end_lawful g (names r.interfaces) (names r.nodes) j.accepted (end_of j.course.outcome) ends.0 own.0.count interface node;
   },
   lines_lawful g workers most count r js w gs own.1 chosen.1 ends.1 interface node,
 )
@@ -184,12 +202,12 @@ pub record IsReportable (setting : Setting) (graphs : List Graph) (packets : ℕ
   pub ends : AllByRecursion (λ (j : Journey). IsEndIn (last_graph graphs) (end_of j.course.outcome)) js
   pub visits : AllByRecursion (λ (j : Journey). AllByRecursion (λ node. node < length (last_graph graphs).nodes) (trace j)) js
 
--- the whole report
-pub report_lawful : (setting : Setting) (graphs : List Graph) (packets : ℕ) (js : List Journey) (report : Report) → report ≡ report_of setting graphs js → IsReportable setting graphs packets js
-    → AllByRecursion (λ (entry : List ℕ × ℕ). IsName entry.0) report.interfaces → AllByRecursion (λ (entry : List ℕ × ℕ). IsName entry.0) report.nodes → IsLawful report
-report_lawful setting graphs packets js report is able interface_names node_names =
+-- the whole report, with counts at drops by congestion
+pub lawful_with_counts : (setting : Setting) (graphs : List Graph) (packets : ℕ) (js : List Journey) (report : Report) → report ≡ report_of setting graphs js → IsReportable setting graphs packets js
+    → AllByRecursion (λ (entry : List ℕ × ℕ). IsName entry.0) report.interfaces → AllByRecursion (λ (entry : List ℕ × ℕ). IsName entry.0) report.nodes → IsLawful (with_counts report)
+lawful_with_counts setting graphs packets js report is able interface_names node_names =
     let g : Graph = last_graph graphs in
-    let r : Report = report_of setting graphs js in
+    let r : Report = with_counts (report_of setting graphs js) in
     let last = able.last in
     let few = able.few in
     let interfaces_are : names r.interfaces ≡ map (λ i. i.name) g.interfaces = names_are (λ i. i.name) (λ n. interface_count n js) 0 g.interfaces in
@@ -202,8 +220,8 @@ report_lawful setting graphs packets js report is able interface_names node_name
     let some_node : 0 < length g.nodes = slice_get_within g.nodes pg_input node.0 node.1 in
     let taken : length r.traces ≡ length (take setting.trace js) = length-map (take setting.trace js) (λ j. map (node_name g) (trace j)) in
     let first = length-take setting.trace js in
-    let packets_long : length r.packets ≡ length js = length-map js (packet_line_of g) in
-    subst IsLawful (sym is)
+    let packets_long : length r.packets ≡ length js = length-map (map (packet_line_of g) js) with_count ∙ length-map js (packet_line_of g) in
+    subst (λ r. IsLawful (with_counts r)) (sym is)
     (record {
       workers = able.workers;
       buffers = able.buffers;
@@ -226,10 +244,28 @@ report_lawful setting graphs packets js report is able interface_names node_name
       errors = errors_lawful (names r.nodes) js 0 g.nodes
           (λ i n e. declared_entry (λ (n : Node). n.name) g.nodes (names r.nodes) nodes_are nodes_differ i n e ∙ ap Some (omega arith))
           (λ n error. let le = count_by-le-length (λ (j : Journey). is_drop n error (end_of j.course.outcome)) js in omega (arith, le, few)) 0 (omega arith);
-      few_packets = let long = length-map js (packet_line_of g) in omega (arith, long, few);
+      few_packets = omega (arith, packets_long, few);
       packets = lines_lawful g setting.workers packets (length graphs) r js refl refl able.own able.chosen able.ends
           (declared_at (λ i. i.name) g.interfaces (names r.interfaces) interfaces_are interfaces_differ)
           (declared_at (λ (n : Node). n.name) g.nodes (names r.nodes) nodes_are nodes_differ);
       few_traces = (let most = able.few_traces in omega (arith, taken, first, most), omega (arith, taken, first, packets_long));
       traces = traces_lawful g (names r.nodes) setting.workers packets setting.trace js (declared_at (λ (n : Node). n.name) g.nodes (names r.nodes) nodes_are nodes_differ) able.visits able.own;
     })
+
+-- journeys of which each has a count where it is dropped by congestion make lines that have them
+counted_lines : (g : Graph) (js : List Journey) → AllByRecursion (λ (j : Journey). IsCountedEnd j.accepted (end_of j.course.outcome)) js → AllByRecursion IsCounted (map (packet_line_of g) js)
+counted_lines g [] own = tt
+counted_lines g (j ∷ js) own = (by j.accepted (end_of j.course.outcome) own.0, counted_lines g js own.1)
+  where
+    by : (accepted : Option ℕ) (end : End) → IsCountedEnd accepted end → count_with accepted (named_end g end) ≡ accepted
+    by None (fate_ends.Tx i) own = refl
+    by (Some count) (fate_ends.Tx i) own = refl
+    by accepted (fate_ends.Dropped n error) own = counted_drop accepted (node_name g n) error own
+
+-- so their report is lawful
+pub report_lawful : (setting : Setting) (graphs : List Graph) (packets : ℕ) (js : List Journey) (report : Report) → report ≡ report_of setting graphs js → IsReportable setting graphs packets js
+    → AllByRecursion (λ (j : Journey). IsCountedEnd j.accepted (end_of j.course.outcome)) js
+    → AllByRecursion (λ (entry : List ℕ × ℕ). IsName entry.0) report.interfaces → AllByRecursion (λ (entry : List ℕ × ℕ). IsName entry.0) report.nodes → IsLawful report
+report_lawful setting graphs packets js report is able own interface_names node_names =
+    let counted : AllByRecursion IsCounted report.packets = subst (λ (r : Report). AllByRecursion IsCounted r.packets) (sym is) (counted_lines (last_graph graphs) js own) in
+    subst IsLawful (counted_report report counted) (lawful_with_counts setting graphs packets js report is able interface_names node_names)

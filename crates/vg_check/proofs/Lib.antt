@@ -1,5 +1,6 @@
 pub mod CourseLemmas
 pub mod JourneyLemmas
+pub mod CountedLemmas
 pub mod LawfulLemmas
 pub mod OneWorkerLemmas
 pub mod LawLemmas

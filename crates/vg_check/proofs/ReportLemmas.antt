@@ -30,14 +30,13 @@ use Rattle.vg_replay.specs.Tasks.{journey_under}
 use Rattle.vg_replay.specs.declared.replaying.Replayed.{Replayed}
 use Rattle.vg_replay.proofs.InsideLemmas.{IsBounded, IsInside, IsJourneyOf, journey_has, course_inside, end_within, drop_within, all_joined}
 use Rattle.vg_replay.proofs.ReplayLemmas.{all_by_get, journey_of_all, as_many_journeys, get_some}
-use Rattle.vg_check.specs.Congestion.{NeverCongests}
 use Rattle.vg_check.specs.Output.{last_graph, frames_of, choices_of, choice_of, node_name, node_errors, packet_line_of}
 use Rattle.vg_check.specs.Points.{IsHead, setting_of, ArePushesLawful}
 use Rattle.vg_check.specs.Reports.{counted, made_entry, made_of, made_by, all_made, reported, trace_of, CanReport}
 use Rattle.vg_check.specs.Verdicts.{Case, first_of, task_by, report_by}
 use Rattle.vg_check.proofs.GrowthLemmas.{grows_to_last}
 use Rattle.vg_check.proofs.JourneyLemmas.{IsOwn, chosen, chosen_are, own_journeys, chosen_lawfully}
-use Rattle.vg_check.proofs.LawfulLemmas.{IsReportable, report_lawful}
+use Rattle.vg_check.proofs.LawfulLemmas.{IsReportable, lawful_with_counts}
 use Rattle.vg_check.proofs.ToldLemmas.{told_of, as_many, told_at, lines_same, traces_same}
 
 -- counts by name, where they are counts by number, from a number on
@@ -121,7 +120,6 @@ pub record IsKnown (case : Case) : Type 0 where
   pub events : length case.plan.graphs ≡ length (events case.plan.script) + 1
   pub few : length case.capture.packets ≤ 65536
   pub kinds : IsKindSet case.visit
-  pub never : NeverCongests case.visit
 
 module _ (case : Case) (known : IsKnown case) (report : Report) (replayed : Replayed) (lawful : IsLawful report) (head : IsHead case.plan case.capture report)
     (are : AreReplayed (task_by case report) (length report.traces) replayed) where
@@ -199,10 +197,10 @@ module _ (case : Case) (known : IsKnown case) (report : Report) (replayed : Repl
   pub many : length are.js ≡ length case.capture.packets
   many = as_many_journeys (task_by case report) are.js are.taken.are_journeys ∙ length-map case.capture.packets (λ p. p.bytes)
 
-  -- the journeys make a lawful report
+  -- the journeys make a report that is lawful, but for counts that drops by congestion lack
   reportable : ArePushesLawful case.queue are.js → IsReportable (setting_of report case.queue) case.plan.graphs (length (frames_of case.capture)) are.js
   reportable pushes =
-      let owned = own_journeys case.visit known.never report.workers lawful.workers.0 case.plan.graphs known.plan.generations (frames_of case.capture) (choices_of report) are.js are.taken.are_journeys in
+      let owned = own_journeys case.visit report.workers lawful.workers.0 case.plan.graphs known.plan.generations (frames_of case.capture) (choices_of report) are.js are.taken.are_journeys in
       let few_js : length are.js ≤ 65536 = (let e = many in let h = known.few in omega (arith, e, h)) in
       let few = events_are_few case.plan.script known.plan.lawful in
       let count = known.events in
@@ -238,7 +236,7 @@ module _ (case : Case) (known : IsKnown case) (report : Report) (replayed : Repl
         let j = journey_of_trip k t at in
         subst (λ o. IsEndIn replayed.last (end_of o)) (sym (ap (λ t. t.outcome) j.2)) (all_at (λ (j : Journey). IsEndIn replayed.last (end_of j.course.outcome)) are.js k j.0 j.1 ends_js));
     visits = visits_trips;
-    lawful = λ a b. report_lawful (setting_of report case.queue) case.plan.graphs (length (frames_of case.capture)) are.js (reported report replayed) reported_is (reportable pushes) a b;
+    lawful = λ a b. lawful_with_counts (setting_of report case.queue) case.plan.graphs (length (frames_of case.capture)) are.js (reported report replayed) reported_is (reportable pushes) a b;
   }
     where
       visits_trips : AllByRecursion (λ (t : Course). AllByRecursion (λ node. node < length replayed.last.nodes) (trace_of t)) (take (length report.traces) replayed.trips)

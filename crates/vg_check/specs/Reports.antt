@@ -1,5 +1,5 @@
 -- The report of packets that went so, part by part.
-use Rattle.std.specs.Prelude.{◌≡◌, ℕ, ◌<◌, ◌≤◌, nat_lt, List, [], ◌∷◌, ◌++◌, length, map, take, flat_map, filter, slice_index, Option}
+use Rattle.std.specs.Prelude.{◌≡◌, ℕ, ◌<◌, ◌≤◌, nat_lt, Bool, List, [], ◌∷◌, ◌++◌, length, map, take, flat_map, filter, slice_index, Option, Some, None, if◌then◌else◌}
 use Rattle.std.specs.List.{AllByRecursion, enumerate_from}
 use Rattle.vg_model.specs.declared.kinds.DropError.{DropError}
 use Rattle.vg_model.specs.Errors.{all_errors, error_number}
@@ -11,7 +11,10 @@ use Rattle.vg_counters.specs.Tally.{drops_at}
 use Rattle.vg_journeys.specs.Ends.{IsEndIn}
 use Rattle.vg_replay.specs.declared.replaying.Replayed.{Replayed}
 use Rattle.vg_report.specs.declared.reports.PacketLine.{PacketLine}
+use Rattle.vg_report.specs.declared.reports.PacketEnd.{PacketEnd}
+use Rattle.vg_report.specs.declared.reports.PacketEnd.TheVariants as ends
 use Rattle.vg_report.specs.declared.reports.Report.{Report}
+use Rattle.vg_report.specs.Forms.{is_congestion}
 use Rattle.vg_report.specs.Lawful.{IsLawful}
 use Rattle.vg_check.specs.Output.{node_name, named_end}
 
@@ -66,7 +69,25 @@ reported report replayed = record {
 abbrev pub AreNames : List (List ℕ × ℕ) → Type 0
 AreNames counts = AllByRecursion (λ (entry : List ℕ × ℕ). IsName entry.0) counts
 
--- all that the report names is in the last graph, and where names are names the report is lawful
+-- 0 where a test holds
+abbrev pub zero_where : Bool → Option ℕ
+zero_where test = if test then Some 0 else None
+
+-- the count of a line that ends so: its own, and 0 where a drop by congestion has none
+abbrev pub count_with : Option ℕ → PacketEnd → Option ℕ
+count_with (Some accepted) end = Some accepted
+count_with None (ends.Tx interface) = None
+count_with None (ends.Dropped node error) = zero_where (is_congestion error)
+
+-- a line with a count at a drop by congestion
+abbrev pub with_count : PacketLine → PacketLine
+with_count line = record line { congested = count_with line.congested line.end }
+
+-- a report with a count at each drop by congestion: a node may drop a packet by congestion where no queue is full, and there is no count then
+abbrev pub with_counts : Report → Report
+with_counts report = record report { packets = map with_count report.packets }
+
+-- all that the report names is in the last graph, and where names are names the report is lawful, but for counts that drops by congestion lack
 pub record CanReport (report : Report) (replayed : Replayed) : Type 0 where
   pub lines : length report.packets ≡ length replayed.trips
   pub few : length report.traces ≤ length replayed.trips
@@ -74,4 +95,4 @@ pub record CanReport (report : Report) (replayed : Replayed) : Type 0 where
   pub interfaces : length replayed.last.interfaces ≤ length replayed.counts.sends
   pub ends : AllByRecursion (λ (t : Course). IsEndIn replayed.last (end_of t.outcome)) replayed.trips
   pub visits : AllByRecursion (λ (t : Course). AllByRecursion (λ node. node < length replayed.last.nodes) (trace_of t)) (take (length report.traces) replayed.trips)
-  pub lawful : AreNames (reported report replayed).interfaces → AreNames (reported report replayed).nodes → IsLawful (reported report replayed)
+  pub lawful : AreNames (reported report replayed).interfaces → AreNames (reported report replayed).nodes → IsLawful (with_counts (reported report replayed))

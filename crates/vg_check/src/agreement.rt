@@ -7,7 +7,7 @@ ghost use Rattle.vg_replay.specs.Legs.{outcome_of};
 ghost use Rattle.vg_report.specs.Lawful.{IsLawful};
 ghost use Rattle.vg_report.specs.Seen.{line_seen, end_seen};
 ghost use Rattle.vg_check.specs.Output.{interface_name, node_name, named_end};
-ghost use Rattle.vg_check.specs.Reports.{line_by, lines_by, trace_of as trace, reported, CanReport};
+ghost use Rattle.vg_check.specs.Reports.{line_by, lines_by, trace_of as trace, reported, with_counts, CanReport};
 
 use crate::reporting::{ERROR_DROP, errors, interfaces, nodes};
 use std::alloc::{AllocError, Global};
@@ -213,7 +213,7 @@ fn all_five(a: bool, b: bool, c: bool, d: bool, e: bool) -> bool
 fn agrees(alloc: Global, report: &Report, replayed: &Replayed) -> Result<bool, AllocError>
     requires { CanReport report.now replayed.now }
     ensures same { IfOk result (λ same. IsTrue same ↔ (report.now ≡ reported report.now replayed.now)) }
-    ensures lawful { IfOk result (λ same. IsLawful (reported report.now replayed.now)) }
+    ensures lawful { IfOk result (λ same. IsLawful (with_counts (reported report.now replayed.now))) }
 {
     let graph = replayed.last.graph();
     let counts = &replayed.counts;
@@ -237,7 +237,7 @@ pub(crate) fn is_reported(
 ) -> Result<bool, Memory>
     requires { CanReport report.now replayed.now }
     ensures same { IfOk result (λ same. IsTrue same ↔ (report.now ≡ reported report.now replayed.now)) }
-    ensures lawful { IfOk result (λ same. IsLawful (reported report.now replayed.now)) }
+    ensures lawful { IfOk result (λ same. IsLawful (with_counts (reported report.now replayed.now))) }
 {
     match agrees(alloc, report, replayed) {
         Ok(same) => Ok(same),

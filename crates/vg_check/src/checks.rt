@@ -4,7 +4,6 @@ ghost use Rattle.std.specs.List.{AllByRecursion};
 ghost use Rattle.vg_plan.specs.Plan.{IsPlan};
 ghost use Rattle.vg_report.specs.Lawful.{IsLawful};
 ghost use Rattle.vg_script.specs.Events.{events};
-ghost use Rattle.vg_check.specs.Congestion.{NeverCongests};
 ghost use Rattle.vg_check.specs.Points.{IsHead};
 ghost use Rattle.vg_check.specs.Verdicts.{IsVerdict, IsAccepted, IsReadAs, case_of};
 
@@ -73,7 +72,6 @@ fn verdict<K: KindSet>(
     tx: &[u8],
     text: &[u8],
 ) -> Result<Verdict, Memory>
-    requires { NeverCongests K.meaning }
     ensures { IfOk result (IsVerdict (case_of K.meaning plan.now capture.now queue tx.now text.now)) }
 {
     let report = match read(alloc, text)? {
@@ -116,6 +114,9 @@ fn verdict<K: KindSet>(
 /// It answers `Yes` exactly where lawful choices of the plan and the capture make both, and else the first of its points that fails. So
 /// what any run puts out is accepted; that some order of turns leads to the choices isn't asked. Each packet is walked once, and one generation is kept at a time.
 ///
+/// The kinds may be any. Where a node drops a packet by congestion itself, and no queue was full, there is no count to name, and no text is
+/// that of a report that tells of it.
+///
 /// # Errors
 ///
 /// [`Memory`] where memory runs out.
@@ -128,7 +129,6 @@ pub fn check<K: KindSet>(
     tx: &[u8],
     report: &[u8],
 ) -> Result<Verdict, Memory>
-    requires { NeverCongests K.meaning }
     ensures verdict { IfOk result (IsVerdict (case_of K.meaning plan.now capture.now queue tx.now report.now)) }
     ensures yes { IfOk result (λ verdict. (verdict ≡ Verdict.Yes) ↔ IsAccepted (case_of K.meaning plan.now capture.now queue tx.now report.now)) }
 {

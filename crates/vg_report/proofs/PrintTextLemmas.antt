@@ -32,7 +32,7 @@ pub record IsLine (ws : Words) : Type 0 where
   pub some : 0 < length ws
   pub words : AreWords ws
 
-words_of_line : (ws : Words) → IsLine ws → words (joined_text ws) ≡ ws
+pub words_of_line : (ws : Words) → IsLine ws → words (joined_text ws) ≡ ws
 words_of_line [] h = let some = h.some in absurd (omega (arith, some))
 words_of_line (w ∷ ws) h = words_are_read w ws h.words
 
@@ -44,7 +44,7 @@ line_in_front (b ∷ bs) rest h =
     let t = text_of ((bs ++ 10 ∷ []) ++ rest) in
     ap (λ c. cond c (record t { lines = [] ∷ t.lines }) (onto b t.lines t.tail)) h.0 ∙ ap (λ (t : Text). onto b t.lines t.tail) (line_in_front bs rest h.1)
 
-text_of_lines : (wss : List Line) → AllByRecursion IsLine wss → text_of (flat_map line_text wss) ≡ record { lines = map joined_text wss; tail = [] }
+pub text_of_lines : (wss : List Line) → AllByRecursion IsLine wss → text_of (flat_map line_text wss) ≡ record { lines = map joined_text wss; tail = [] }
 text_of_lines [] h = refl
 text_of_lines (ws ∷ wss) h =
     line_in_front (joined_text ws) (flat_map line_text wss) (no_feeds ws h.0.words)
@@ -127,13 +127,13 @@ a_trace_line nodes is n t few h = record {
   words = (literal _ refl refl, (number_is_word n (omega (arith, few)), all_weaken (IsDeclared nodes) IsWord (λ name k. name_is_word name (declared_is_name nodes name is k)) t h.declared));
 }
 
-last_is_line : IsLine last_line
+pub last_is_line : IsLine last_line
 last_is_line = record { some = omega arith; words = (literal _ refl refl, tt) }
 
 first_is_line : IsLine first_line
 first_is_line = record { some = omega arith; words = (literal _ refl refl, (literal _ refl refl, (literal _ refl refl, tt))) }
 
-body_are_lines : (r : Report) → IsLawful r → AllByRecursion IsLine (body_lines r)
+pub body_are_lines : (r : Report) → IsLawful r → AllByRecursion IsLine (body_lines r)
 body_are_lines r h =
     let is = names_are r.interfaces h.interfaces.are_names in
     let is' = names_are r.nodes h.nodes.are_names in
@@ -162,7 +162,7 @@ body_are_lines r h =
 abbrev head_is : Report → Head
 head_is r = record { workers = r.workers; buffers = r.buffers; generations = r.generations; packets = length r.packets }
 
-head_are_lines : (r : Report) → IsLawful r → AllByRecursion IsLine (head_lines r)
+pub head_are_lines : (r : Report) → IsLawful r → AllByRecursion IsLine (head_lines r)
 head_are_lines r h =
     let workers = h.workers in
     let buffers = h.buffers in

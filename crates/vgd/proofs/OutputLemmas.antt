@@ -34,6 +34,7 @@ use Rattle.vg_engine.specs.Outcomes.{IsOutcome, IsRestOf}
 use Rattle.vg_check.specs.Output.{Setting, IsOutput, report_of, choices_of, last_graph, frames_of, node_name, node_errors, packet_line_of}
 use Rattle.vg_check.specs.OneWorker.{alone, HasOwnEnds}
 use Rattle.vg_check.proofs.AlikeLemmas.{sends_alike}
+use Rattle.vg_check.proofs.CongestionLemmas.{counted_ends}
 use Rattle.vg_check.proofs.CourseLemmas.{own_visit}
 use Rattle.vg_check.proofs.JourneyLemmas.{IsOwn, own_journeys, chosen_lawfully}
 use Rattle.vg_check.proofs.LawfulLemmas.{IsReportable, report_lawful}
@@ -144,7 +145,7 @@ module _ (plan : Planned) (options : Options) (capture : Capture) (outcome : Out
   -- each packet has a journey of its own
   pub own : AreInRange options → IsPlan plan → AllByRecursion (IsOwn options.workers (length (frames_of capture))) is.js × (length is.js ≡ length (frames_of capture))
   own range planned =
-      own_journeys ip4_visit own_visit options.workers range.workers.0 plan.graphs planned.generations (frames_of capture) is.choices is.js is.lawful.are_journeys
+      own_journeys ip4_visit options.workers range.workers.0 plan.graphs planned.generations (frames_of capture) is.choices is.js is.lawful.are_journeys
 
   -- what the report is made from is in range
   pub reportable : AreInRange options → IsPlan plan → length plan.graphs ≡ length (events plan.script) + 1 → length capture.packets ≤ 65536
@@ -174,7 +175,8 @@ module _ (plan : Planned) (options : Options) (capture : Capture) (outcome : Out
       → report ≡ reported options (length plan.graphs) outcome → AllByRecursion (λ (entry : List ℕ × ℕ). IsName entry.0) report.interfaces
       → AllByRecursion (λ (entry : List ℕ × ℕ). IsName entry.0) report.nodes → IsLawful report
   made_lawful report range planned count few_packets made interfaces nodes =
-      report_lawful (setting_in options) plan.graphs (length (frames_of capture)) is.js report (made ∙ reported_is) (reportable range planned count few_packets) interfaces nodes
+      report_lawful (setting_in options) plan.graphs (length (frames_of capture)) is.js report (made ∙ reported_is) (reportable range planned count few_packets)
+      (counted_ends ip4_visit own_visit options.workers plan.graphs (frames_of capture) is.choices is.js is.lawful.are_journeys) interfaces nodes
 
   -- each node of a trace is one of the last graph's
   pub traced_within : AllByRecursion (AllByRecursion (λ node. node < length outcome.last.nodes)) outcome.trace

@@ -13,7 +13,7 @@ first_unlawful-requires-clause-few g c =
     let report : Report = c.in-Ok.report in
     let replayed : Replayed = c.in-Ok-replay.replayed in
     let trips : List Course = c.in-Ok-replay.replayed.trips in
-    let known : IsKnown case = record { plan = c.know_plan.ensures.plan; events = c.know_plan.ensures.events; few = c.know_plan.ensures.few; kinds = g.met.K.KindSet.lawful; never = c.requires } in
+    let known : IsKnown case = record { plan = c.know_plan.ensures.plan; events = c.know_plan.ensures.events; few = c.know_plan.ensures.few; kinds = g.met.K.KindSet.lawful } in
     let m : IsMade case report replayed trips =
     made case report replayed trips (length c.as_slice.result.now) c.in_ok-report.field-0 known c.in_ok-report.ensures c.in-Ok.is (c.is_head.ensures.0 c.if-not-is_head.false) (ap length c.as_slice.ensures)
     c.in-Ok-replay.ensures.replayed refl in
@@ -25,7 +25,7 @@ first_unlawful-requires-clause-lines g c =
     let report : Report = c.in-Ok.report in
     let replayed : Replayed = c.in-Ok-replay.replayed in
     let trips : List Course = c.in-Ok-replay.replayed.trips in
-    let known : IsKnown case = record { plan = c.know_plan.ensures.plan; events = c.know_plan.ensures.events; few = c.know_plan.ensures.few; kinds = g.met.K.KindSet.lawful; never = c.requires } in
+    let known : IsKnown case = record { plan = c.know_plan.ensures.plan; events = c.know_plan.ensures.events; few = c.know_plan.ensures.few; kinds = g.met.K.KindSet.lawful } in
     let m : IsMade case report replayed trips =
     made case report replayed trips (length c.as_slice.result.now) c.in_ok-report.field-0 known c.in_ok-report.ensures c.in-Ok.is (c.is_head.ensures.0 c.if-not-is_head.false) (ap length c.as_slice.ensures)
     c.in-Ok-replay.ensures.replayed refl in
@@ -37,7 +37,7 @@ first_unlawful-requires-clause-workers g c =
     let report : Report = c.in-Ok.report in
     let replayed : Replayed = c.in-Ok-replay.replayed in
     let trips : List Course = c.in-Ok-replay.replayed.trips in
-    let known : IsKnown case = record { plan = c.know_plan.ensures.plan; events = c.know_plan.ensures.events; few = c.know_plan.ensures.few; kinds = g.met.K.KindSet.lawful; never = c.requires } in
+    let known : IsKnown case = record { plan = c.know_plan.ensures.plan; events = c.know_plan.ensures.events; few = c.know_plan.ensures.few; kinds = g.met.K.KindSet.lawful } in
     let m : IsMade case report replayed trips =
     made case report replayed trips (length c.as_slice.result.now) c.in_ok-report.field-0 known c.in_ok-report.ensures c.in-Ok.is (c.is_head.ensures.0 c.if-not-is_head.false) (ap length c.as_slice.ensures)
     c.in-Ok-replay.ensures.replayed refl in
@@ -49,7 +49,7 @@ returns-in-Some g c =
     let report : Report = c.in-Ok.report in
     let replayed : Replayed = c.in-Ok-replay.replayed in
     let trips : List Course = c.in-Ok-replay.replayed.trips in
-    let known : IsKnown case = record { plan = c.know_plan.ensures.plan; events = c.know_plan.ensures.events; few = c.know_plan.ensures.few; kinds = g.met.K.KindSet.lawful; never = c.requires } in
+    let known : IsKnown case = record { plan = c.know_plan.ensures.plan; events = c.know_plan.ensures.events; few = c.know_plan.ensures.few; kinds = g.met.K.KindSet.lawful } in
     let m : IsMade case report replayed trips =
     made case report replayed trips (length c.as_slice.result.now) c.in_ok-report.field-0 known c.in_ok-report.ensures c.in-Ok.is (c.is_head.ensures.0 c.if-not-is_head.false) (ap length c.as_slice.ensures)
     c.in-Ok-replay.ensures.replayed refl in
@@ -61,7 +61,7 @@ is_reported-requires g c =
     let report : Report = c.in-Ok.report in
     let replayed : Replayed = c.in-Ok-replay.replayed in
     let trips : List Course = c.in-Ok-replay.replayed.trips in
-    let known : IsKnown case = record { plan = c.know_plan.ensures.plan; events = c.know_plan.ensures.events; few = c.know_plan.ensures.few; kinds = g.met.K.KindSet.lawful; never = c.requires } in
+    let known : IsKnown case = record { plan = c.know_plan.ensures.plan; events = c.know_plan.ensures.events; few = c.know_plan.ensures.few; kinds = g.met.K.KindSet.lawful } in
     let m : IsMade case report replayed trips =
     made case report replayed trips (length c.as_slice.result.now) c.in_ok-report.field-0 known c.in_ok-report.ensures c.in-Ok.is (c.is_head.ensures.0 c.if-not-is_head.false) (ap length c.as_slice.ensures)
     c.in-Ok-replay.ensures.replayed refl in
@@ -73,7 +73,7 @@ returns-then-not-reported g c =
     let report : Report = c.in-Ok.report in
     let replayed : Replayed = c.in-Ok-replay.replayed in
     let trips : List Course = c.in-Ok-replay.replayed.trips in
-    let known : IsKnown case = record { plan = c.know_plan.ensures.plan; events = c.know_plan.ensures.events; few = c.know_plan.ensures.few; kinds = g.met.K.KindSet.lawful; never = c.requires } in
+    let known : IsKnown case = record { plan = c.know_plan.ensures.plan; events = c.know_plan.ensures.events; few = c.know_plan.ensures.few; kinds = g.met.K.KindSet.lawful } in
     let m : IsMade case report replayed trips =
     made case report replayed trips (length c.as_slice.result.now) c.in_ok-report.field-0 known c.in_ok-report.ensures c.in-Ok.is (c.is_head.ensures.0 c.if-not-is_head.false) (ap length c.as_slice.ensures)
     c.in-Ok-replay.ensures.replayed refl in
@@ -86,7 +86,7 @@ is_saved-requires g c =
     let report : Report = c.in-Ok.report in
     let replayed : Replayed = c.in-Ok-replay.replayed in
     let trips : List Course = c.in-Ok-replay.replayed.trips in
-    let known : IsKnown case = record { plan = c.know_plan.ensures.plan; events = c.know_plan.ensures.events; few = c.know_plan.ensures.few; kinds = g.met.K.KindSet.lawful; never = c.requires } in
+    let known : IsKnown case = record { plan = c.know_plan.ensures.plan; events = c.know_plan.ensures.events; few = c.know_plan.ensures.few; kinds = g.met.K.KindSet.lawful } in
     let m : IsMade case report replayed trips =
     made case report replayed trips (length c.as_slice.result.now) c.in_ok-report.field-0 known c.in_ok-report.ensures c.in-Ok.is (c.is_head.ensures.0 c.if-not-is_head.false) (ap length c.as_slice.ensures)
     c.in-Ok-replay.ensures.replayed refl in
@@ -98,7 +98,7 @@ returns-then-not-saved g c =
     let report : Report = c.in-Ok.report in
     let replayed : Replayed = c.in-Ok-replay.replayed in
     let trips : List Course = c.in-Ok-replay.replayed.trips in
-    let known : IsKnown case = record { plan = c.know_plan.ensures.plan; events = c.know_plan.ensures.events; few = c.know_plan.ensures.few; kinds = g.met.K.KindSet.lawful; never = c.requires } in
+    let known : IsKnown case = record { plan = c.know_plan.ensures.plan; events = c.know_plan.ensures.events; few = c.know_plan.ensures.few; kinds = g.met.K.KindSet.lawful } in
     let m : IsMade case report replayed trips =
     made case report replayed trips (length c.as_slice.result.now) c.in_ok-report.field-0 known c.in_ok-report.ensures c.in-Ok.is (c.is_head.ensures.0 c.if-not-is_head.false) (ap length c.as_slice.ensures)
     c.in-Ok-replay.ensures.replayed refl in
@@ -111,7 +111,7 @@ returns g c =
     let report : Report = c.in-Ok.report in
     let replayed : Replayed = c.in-Ok-replay.replayed in
     let trips : List Course = c.in-Ok-replay.replayed.trips in
-    let known : IsKnown case = record { plan = c.know_plan.ensures.plan; events = c.know_plan.ensures.events; few = c.know_plan.ensures.few; kinds = g.met.K.KindSet.lawful; never = c.requires } in
+    let known : IsKnown case = record { plan = c.know_plan.ensures.plan; events = c.know_plan.ensures.events; few = c.know_plan.ensures.few; kinds = g.met.K.KindSet.lawful } in
     let m : IsMade case report replayed trips =
     made case report replayed trips (length c.as_slice.result.now) c.in_ok-report.field-0 known c.in_ok-report.ensures c.in-Ok.is (c.is_head.ensures.0 c.if-not-is_head.false) (ap length c.as_slice.ensures)
     c.in-Ok-replay.ensures.replayed refl in

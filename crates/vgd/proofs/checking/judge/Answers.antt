@@ -3,11 +3,7 @@ use Rattle.std.specs.Prelude.{◌↔◌}
 use Rattle.vg_model.specs.Visit.{ip4_visit}
 use Rattle.vg_check.specs.declared.verdicts.Verdict.TheVariants as verdicts
 use Rattle.vg_check.specs.Verdicts.{Case, case_of, IsVerdict, IsAccepted}
-use Rattle.vg_check.proofs.CourseLemmas.{own_visit}
 use Rattle.vgd.proofs.checking.judge.Goals as goal
-
-pub check-requires : goal.check-requires
-check-requires c = own_visit
 
 pub returns-in-Ok-verdict_on-clause-verdict : goal.returns-in-Ok-verdict_on-clause-verdict
 returns-in-Ok-verdict_on-clause-verdict c =
