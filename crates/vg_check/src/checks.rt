@@ -114,8 +114,8 @@ fn verdict<K: KindSet>(
 /// It answers `Yes` exactly where lawful choices of the plan and the capture make both, and else the first of its points that fails. So
 /// what any run puts out is accepted; that some order of turns leads to the choices isn't asked. Each packet is walked once, and one generation is kept at a time.
 ///
-/// The kinds may be any. Where a node drops a packet by congestion itself, and no queue was full, there is no count to name, and no text is
-/// that of a report that tells of it.
+/// The kinds may be any. Where a node drops a packet by congestion itself, no queue was full and there is no count to name, so no lawful
+/// report tells of it.
 ///
 /// # Errors
 ///
