@@ -23,11 +23,11 @@ use std::mem;
 use std::sync::ledger::Ledger;
 use vg_capture::Packets;
 use vg_counters::{Counters, Trace};
-use vg_fates::{FateLog, legs_of};
+use vg_fates::FateLog;
 use vg_fork::Fork;
 use vg_frame::{BufferMemory, Frame, FrameStore, MOST_NODES};
 use vg_hands::{HandFrame, HandPackets, Handoff};
-use vg_model::{DropError, End, Fate, Leg, Legs, Memory};
+use vg_model::{DropError, End, Leg, Memory};
 use vg_nodes::{KindSet, Sorted, dispatch_frame};
 use vg_pool::{Buffer, Cache, LONGEST_PACKET};
 
@@ -106,16 +106,16 @@ impl Work {
     }
 
     // Logs the end of a packet, and counts it. A drop at another node brings a visit of `error-drop`.
-    fn log(&mut self, number: u32, legs: Legs, congested: Option<u64>, end: End)
-        requires legs { (1 ≤ length legs) × (length legs ≤ 4) }
+    fn log(&mut self, number: u32, legs: &[Leg], congested: Option<u64>, end: End)
+        requires legs { (1 ≤ length legs.now) × (length legs.now ≤ 4) }
         requires room { length self.old.fates.items < self.old.fates.room }
         requires counts { CanCount end self.old.counts }
-        ensures fates { self.new.fates.items ≡ self.old.fates.items ++ (record { number = number; legs = legs; congested = congested; end = end }) ∷ [] }
+        ensures fates { self.new.fates.items ≡ self.old.fates.items ++ (record { number = number; legs = legs.now; congested = congested; end = end }) ∷ [] }
         ensures room { self.new.fates.room ≡ self.old.fates.room }
         ensures rest { self.new ≡ record self.old {
           fates = self.new.fates;
           counts = counted_end end self.old.counts;
-          trace = noted_end number (length legs - 1) end self.old.trace;
+          trace = noted_end number (length legs.now - 1) end self.old.trace;
         } }
     {
         match end {
@@ -124,17 +124,11 @@ impl Work {
                 self.counts.dropped(node, error);
                 if node != ERROR_DROP {
                     self.counts.visit(ERROR_DROP, 1);
-                    self.trace
-                        .note(number, legs.as_slice().len() as u8, ERROR_DROP);
+                    self.trace.note(number, legs.len() as u8, ERROR_DROP);
                 }
             }
         }
-        self.fates.push(Fate {
-            number,
-            legs,
-            congested,
-            end,
-        });
+        self.fates.push(number, legs, congested, end);
     }
 
     // Keeps the bytes of a packet that is transmitted.
@@ -172,7 +166,7 @@ impl Work {
         if let End::Tx { .. } = end {
             self.keep(packet.number(), packet.bytes());
         }
-        self.log(packet.number(), legs_of(packet.legs()), None, end);
+        self.log(packet.number(), packet.legs(), None, end);
         cache.free(packet);
     }
 
@@ -221,7 +215,7 @@ impl Work {
         let error = DropError::Congestion;
         self.log(
             buffer.number(),
-            legs_of(buffer.legs()),
+            buffer.legs(),
             Some(accepted),
             End::Dropped { node, error },
         );
@@ -488,12 +482,10 @@ impl Work {
         self.counts.visit(PG_INPUT, 1);
         self.trace.note(number, 1, PG_INPUT);
         if bytes.len() > LONGEST_PACKET {
-            let mut legs = Legs::new();
-            legs.push(leg);
             let error = DropError::TooLong;
             self.log(
                 number,
-                legs,
+                &[leg],
                 None,
                 End::Dropped {
                     node: PG_INPUT,

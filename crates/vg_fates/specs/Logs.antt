@@ -1,7 +1,6 @@
 -- Fates as workers log them.
 use Rattle.std.specs.Prelude.{ℕ, ◌+◌, ◌<◌, ◌^◌, List, [], ◌∷◌, length, map, None, slice_index_or, All}
 use Rattle.vg_model.specs.declared.fates.Fate.{Fate}
-use Rattle.vg_model.specs.declared.fates.Leg.{Leg}
 use Rattle.vg_model.specs.declared.fates.End.{End}
 use Rattle.vg_model.specs.declared.fates.End.TheVariants as ends
 use Rattle.vg_fates.specs.declared.logs.LogEntry.{LogEntry}

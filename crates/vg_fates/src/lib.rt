@@ -3,4 +3,4 @@
 
 pub mod logs;
 
-pub use logs::{FateList, FateLog, FateRef, legs_of};
+pub use logs::{FateList, FateLog, FateRef};

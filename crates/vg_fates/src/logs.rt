@@ -75,18 +75,18 @@ impl Model for FateList {
 }
 
 // A fate as it is logged in itself, where it can be.
-fn plain(fate: &Fate) -> Option<LogEntry>
-    ensures { IfSome result (λ entry. (others : List Fate) → IsLogged (length others) entry × (fate_in others entry ≡ fate.now)) }
+fn plain(number: u32, legs: &[Leg], congested: Option<u64>, end: End) -> Option<LogEntry>
+    ensures { IfSome result (λ entry. (others : List Fate) → IsLogged (length others) entry
+        × (fate_in others entry ≡ record { number = number; legs = legs.now; congested = congested; end = end })) }
 {
-    let legs = fate.legs.as_slice();
-    if fate.congested.is_some() || legs.len() != 1 {
+    if congested.is_some() || legs.len() != 1 {
         return None;
     }
     let Leg { worker, generation } = legs[0];
     Some(LogEntry::Plain {
         worker,
-        end: fate.end,
-        number: fate.number,
+        end,
+        number,
         generation,
     })
 }
@@ -121,16 +121,23 @@ impl FateLog {
         self.entries.len()
     }
 
-    /// Logs a fate. It takes no memory.
-    pub fn push(&mut self, fate: Fate)
-        requires { length self.old.items < self.old.room }
-        ensures { self.new ≡ record self.old { items = self.old.items ++ fate ∷ [] } }
+    /// Logs what became of the packet with this number. It takes no memory, and copies the legs only where there are several or a
+    /// queue refused the packet.
+    pub fn push(&mut self, number: u32, legs: &[Leg], congested: Option<u64>, end: End)
+        requires room { length self.old.items < self.old.room }
+        requires legs { length legs.now ≤ 4 }
+        ensures { self.new ≡ record self.old { items = self.old.items ++ (record { number = number; legs = legs.now; congested = congested; end = end }) ∷ [] } }
     {
-        match plain(&fate) {
+        match plain(number, legs, congested, end) {
             Some(entry) => self.entries.push_reserved(entry),
             None => {
                 let place = self.others.len() as u32;
-                self.others.push_reserved(fate);
+                self.others.push_reserved(Fate {
+                    number,
+                    legs: legs_of(legs),
+                    congested,
+                    end,
+                });
                 self.entries.push_reserved(LogEntry::Other { place });
             }
         }
@@ -187,8 +194,8 @@ fn put_in_place(entries: &mut [LogEntry], others: &[Fate]) -> bool
     placed == count
 }
 
-/// The legs of a packet once more.
-pub fn legs_of(legs: &[Leg]) -> Legs
+// The legs of a packet once more.
+fn legs_of(legs: &[Leg]) -> Legs
     requires { length legs.now ≤ 4 }
     ensures { result ≡ legs.now }
 {

@@ -2,7 +2,7 @@
 
 use std::test::Fail;
 use vg_fates::{FateLog, FateRef};
-use vg_model::{DropError, End, Fate, Leg, Legs};
+use vg_model::{DropError, End, Leg};
 
 #[test]
 fn fates_of_both_kinds_are_read_back(rt: HostRuntime) -> Result<(), Fail> {
@@ -14,29 +14,14 @@ fn fates_of_both_kinds_are_read_back(rt: HostRuntime) -> Result<(), Fail> {
         worker: 0,
         generation: 8,
     };
-    let mut one = Legs::new();
-    one.push(first);
-    let mut two = Legs::new();
-    two.push(first);
-    two.push(second);
     let sent = End::Tx { interface: 1 };
     let refused = End::Dropped {
         node: 9,
         error: DropError::Congestion,
     };
     let mut log = FateLog::new(rt.alloc(), 2).expect(&rt, "memory");
-    log.push(Fate {
-        number: 5,
-        legs: one,
-        congested: None,
-        end: sent,
-    });
-    log.push(Fate {
-        number: 3,
-        legs: two,
-        congested: Some(64),
-        end: refused,
-    });
+    log.push(5, &[first], None, sent);
+    log.push(3, &[first, second], Some(64), refused);
     assert_eq!(rt; log.len(), 2);
     let fates = log.into_list();
     assert_eq!(rt; fates.len(), 2);
