@@ -14,6 +14,9 @@ pub header_appended : (a b c d e f g h : List ℕ)
     → ((((((a ++ b) ++ c) ++ d) ++ e) ++ f) ++ g) ++ h ≡ a ++ ((((((b ++ c) ++ d) ++ e) ++ f) ++ g) ++ h)
 header_appended a b c d e f g h = simp append_assoc
 
+pub numbers_appended : (a b c d e : List ℕ) → (((a ++ b) ++ c) ++ d) ++ e ≡ a ++ (b ++ (c ++ (d ++ e)))
+numbers_appended a b c d e = simp append_assoc
+
 -- the record of a packet with these marks
 pub sent_is : (packets : List Captured) (number : ℕ) (bytes : List ℕ) (marks : Marks) → option_map marks_of (slice_get packets number) ≡ Some marks
     → head_of marks (length bytes) ++ bytes ≡ sent_in packets (number, bytes)

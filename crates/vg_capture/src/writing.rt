@@ -1,13 +1,13 @@
 //! Writing a savefile.
 ghost use Rattle.std.specs.Prelude.{◌≡◌, ◌++◌, ◌<◌, ◌^◌, OnOk, IfOk, length};
+ghost use Rattle.vg_capture.specs.Places.{head_of};
 ghost use Rattle.vg_capture.specs.Savefile.{AreWithin, file_header, pairs, savefile, sent_in};
 
-use crate::captures::{Capture, Sent};
+use crate::captures::{Capture, Marks, Sent};
 use crate::layout::{
     FILE_HEADER_LEN, LINKTYPE_ETHERNET, MAJOR_VERSION, MICROSECONDS_MAGIC, MINOR_VERSION,
     NANOSECONDS_MAGIC, RECORD_HEADER_LEN,
 };
-use crate::records::head;
 use byteorder::{LittleEndian, WriteBytesExt};
 use std::alloc::{AllocError, Global};
 use std::io;
@@ -64,8 +64,9 @@ impl Savefile {
         requires len { length bytes.now < 2 ^ 32 }
         ensures { OnOk result (self.new ≡ self.old ++ sent_in capture.now.packets (number, bytes.now)) }
     {
-        let head = head(capture.packets.marks(number as usize), bytes.len() as u32);
-        put_record(&mut self.bytes, &head, bytes)
+        let marks = capture.packets.marks(number as usize);
+        put_head(&mut self.bytes, marks, bytes.len() as u32)?;
+        put(&mut self.bytes, bytes)
     }
 
     /// The whole file.
@@ -129,10 +130,20 @@ fn put_header(out: &mut Vec<u8>, capture: &Capture) -> io::Result<()>
     out.write_u32::<LittleEndian>(LINKTYPE_ETHERNET)
 }
 
-/// Appends a record: its header, and then its bytes.
-fn put_record(out: &mut Vec<u8>, head: &[u8], bytes: &[u8]) -> Result<(), AllocError>
-    ensures { OnOk result (out.new.items ≡ out.old.items ++ head.now ++ bytes.now) }
+/// Appends the header of a record with so many bytes, number by number: a header made apart is read back from memory before its
+/// parts have arrived there.
+fn put_head(out: &mut Vec<u8>, marks: Marks, len: u32) -> Result<(), AllocError>
+    ensures { OnOk result (out.new.items ≡ out.old.items ++ head_of marks len) }
 {
-    out.extend_from_slice(head)?;
+    put(out, &marks.seconds.to_le_bytes())?;
+    put(out, &marks.fraction.to_le_bytes())?;
+    put(out, &len.to_le_bytes())?;
+    put(out, &marks.original.to_le_bytes())
+}
+
+/// Appends bytes.
+fn put(out: &mut Vec<u8>, bytes: &[u8]) -> Result<(), AllocError>
+    ensures { OnOk result (out.new.items ≡ out.old.items ++ bytes.now) }
+{
     out.extend_from_slice(bytes)
 }

@@ -1,5 +1,4 @@
-use Rattle.std.proofs.Common.{◌≡◌, ◌++◌, ◌<◌, ◌^◌, length, rules, refl}
-use Rattle.vg_capture.specs.Places.{head_of}
+use Rattle.std.proofs.Common.{◌≡◌, ◌++◌, ◌<◌, ◌^◌, length, rules}
 use Rattle.vg_capture.proofs.PlaceLemmas.{packet_more}
 use Rattle.vg_capture.proofs.captures.add.Goals as goal
 
