@@ -7,5 +7,5 @@ run_workers-requires-clause-options g c κs within = load_range c.args.workers c
 
 pub returns-clause-ended : goal.returns-clause-ended
 returns-clause-ended g c =
-    c.len.ensures
+    c.len.ensures.count
     ∙ all_ended c.in-Ok.plan _ c.args.capture.now c.in_ok-outcome.outcome c.in_ok-outcome.ensures (load_range c.args.workers c.requires.workers) c.generations-generations.ensures.plan
