@@ -106,6 +106,7 @@ impl Work {
     }
 
     // Logs the end of a packet, and counts it. A drop at another node brings a visit of `error-drop`.
+    #[inline]
     fn log(&mut self, number: u32, legs: &[Leg], congested: Option<u64>, end: End)
         requires legs { (1 ≤ length legs.now) × (length legs.now ≤ 4) }
         requires room { length self.old.fates.items < self.old.fates.room }
@@ -132,6 +133,7 @@ impl Work {
     }
 
     // Keeps the bytes of a packet that is transmitted.
+    #[inline]
     fn keep(&mut self, number: u32, bytes: &[u8])
         requires few { length bytes.now ≤ 2048 }
         requires entries { vec_len self.old.entries < vec_capacity self.old.entries }
@@ -157,6 +159,7 @@ impl Work {
     }
 
     // Takes the packet of an index out, whose leg is over, and gives its buffer back.
+    #[inline]
     fn finish<T: Ledger, G: Ledger>(&mut self, index: u32, end: End, cache: &mut Cache<T, G>)
         requires { CanFinish index end self.old cache.old }
         ensures finished { Finishes index end self.old self.new }
@@ -172,6 +175,7 @@ impl Work {
 
     // Puts packets away that the visits of `K` at a node have sorted, but for those that are handed over: those that go on wait for the
     // next node, and those whose legs are over are taken out.
+    #[inline]
     fn put_apart<K: KindSet, T: Ledger, G: Ledger>(
         &mut self,
         fork: &Fork,

@@ -31,6 +31,8 @@ pub struct Ip4Kinds;
 impl KindSet for Ip4Kinds {
     ghost meaning = { ip4_visit };
 
+    // One call for each packet and node.
+    #[inline(always)]
     fn visit(&self, fork: &Fork, node: u16, buffer: &mut Buffer) -> Step {
         match fork.kind(node) {
             Kind::EthernetInput => ethernet_input(fork, buffer),

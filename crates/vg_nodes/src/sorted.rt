@@ -56,6 +56,7 @@ impl Sorted {
     }
 
     /// Puts an index into the list that the step of its packet names, behind those that are there.
+    #[inline]
     pub fn put(&mut self, index: u32, step: Step)
         requires { HasRoom self.old }
         ensures { self.new ≡ put index step self.old }
