@@ -288,10 +288,11 @@ fn is_put_out<R: Wait + Threads + Sync + AllocGlobal>(
         "t",
     ];
     let again = run_by(rt, &words, run.capture.as_slice(), run.script, b"0010")?;
+    let printed = again.printed.as_slice() == report;
     let Some(tx) = again.tx else {
         return Ok(false);
     };
-    Ok(again.printed.as_slice() == report && tx.as_slice() == run.tx.as_slice())
+    Ok(printed && tx.as_slice() == run.tx.as_slice())
 }
 
 // A changed report is accepted where a run puts it out, which is with another number of buffers than the 4,096 of this one. And two
