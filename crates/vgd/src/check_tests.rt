@@ -287,12 +287,16 @@ fn is_put_out<R: Wait + Threads + Sync + AllocGlobal>(
         "s",
         "t",
     ];
-    let again = run_by(rt, &words, run.capture.as_slice(), run.script, b"0010")?;
-    let printed = again.printed.as_slice() == report;
-    let Some(tx) = again.tx else {
+    let Ran {
+        status: _,
+        printed,
+        tx,
+        ran: _,
+    } = run_by(rt, &words, run.capture.as_slice(), run.script, b"0010")?;
+    let Some(tx) = tx else {
         return Ok(false);
     };
-    Ok(printed && tx.as_slice() == run.tx.as_slice())
+    Ok(printed.as_slice() == report && tx.as_slice() == run.tx.as_slice())
 }
 
 // A changed report is accepted where a run puts it out, which is with another number of buffers than the 4,096 of this one. And two
