@@ -1,4 +1,4 @@
-//! What became of packets, as workers log it and as a report reads it: most fates in 20 bytes each, every one whole.
+//! What became of packets, as workers log it and as a report reads it: most fates in 16 bytes each, every one whole.
 #![tactic(auto)]
 
 pub mod logs;
