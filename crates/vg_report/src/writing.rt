@@ -24,6 +24,7 @@ fn put(out: &mut Vec<u8>, bytes: &[u8]) -> Result<(), AllocError>
 }
 
 // Appends the digits of a number.
+#[inline]
 fn put_decimal(out: &mut Vec<u8>, number: u64) -> Result<(), AllocError>
     ensures { OnOk result (out.new.items ≡ out.old.items ++ decimal number) }
 {
@@ -107,6 +108,7 @@ fn put_error_line(
 }
 
 // Appends a leg behind a mark: the space that parts words, or the comma that parts legs.
+#[inline]
 fn put_leg(out: &mut Vec<u8>, mark: u8, leg: Leg) -> Result<(), AllocError>
     ensures { OnOk result (out.new.items ≡ out.old.items ++ mark ∷ leg_text leg) }
 {
@@ -122,6 +124,7 @@ fn put_leg(out: &mut Vec<u8>, mark: u8, leg: Leg) -> Result<(), AllocError>
 }
 
 // Appends the legs of a packet as a further word.
+#[inline]
 fn put_legs(out: &mut Vec<u8>, legs: &[Leg]) -> Result<(), AllocError>
     ensures { OnOk result (out.new.items ≡ out.old.items ++ 32 ∷ legs_word legs.now) }
 {
@@ -147,6 +150,7 @@ fn put_congested(out: &mut Vec<u8>, congested: Option<u64>) -> Result<(), AllocE
 }
 
 // Appends how a packet ended, and ends the line.
+#[inline]
 fn put_end(out: &mut Vec<u8>, end: &EndRef<'_>) -> Result<(), AllocError>
     ensures { OnOk result (out.new.items ≡ out.old.items ++ (further (end_words (end_seen end.now)) ++ 10 ∷ [])) }
 {
@@ -165,6 +169,7 @@ fn put_end(out: &mut Vec<u8>, end: &EndRef<'_>) -> Result<(), AllocError>
     }
 }
 
+#[inline]
 fn put_packet_line(out: &mut Vec<u8>, number: usize, packet: &LineRef<'_>) -> Result<(), AllocError>
     ensures { OnOk result (out.new.items ≡ out.old.items ++ line_text (packet_line number (line_seen packet.now))) }
 {
