@@ -1,3 +1,4 @@
 pub mod QueueLemmas
 pub mod AdvanceLemmas
 pub mod PushLemmas
+pub mod SendLemmas

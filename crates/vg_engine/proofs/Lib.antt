@@ -11,3 +11,4 @@ pub mod OrderLemmas
 pub mod OutcomeLemmas
 pub mod SeatLemmas
 pub mod ThreadLemmas
+pub mod SendLemmas

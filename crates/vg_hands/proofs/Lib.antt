@@ -1,1 +1,1 @@
-pub mod SumLemmas
+pub mod SendLemmas

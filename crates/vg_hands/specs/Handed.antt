@@ -1,7 +1,7 @@
 -- Packets that are handed over.
-use Rattle.std.specs.Prelude.{◌≡◌, ℕ, ◌≤◌, true, List, length, map, drop, Option, is_some, unwrap_or}
+use Rattle.std.specs.Prelude.{◌≡◌, ℕ, ◌*◌, ◌≤◌, List, ◌++◌, length, reverse, sum_by}
 use Rattle.std.specs.List.{AllByRecursion}
-use Rattle.vg_pool.specs.Contents.{Contents, nothing}
+use Rattle.vg_pool.specs.Contents.{Contents, longest_packet}
 use Rattle.vg_journeys.specs.Trips.{last_generation}
 use Rattle.vg_journeys.specs.Accounts.{HandoffFrame}
 
@@ -9,16 +9,16 @@ use Rattle.vg_journeys.specs.Accounts.{HandoffFrame}
 abbrev pub most_handed : ℕ
 most_handed = 256
 
--- the packets in places, from one place on
-abbrev pub packet_in : Option Contents → Contents
-packet_in place = unwrap_or place nothing
+-- the packets of two stacks: first those of the front, from the top down, then those of the back, from the bottom up
+abbrev pub in_line : (front back : List Contents) → List Contents
+in_line front back = front ++ reverse back
 
-abbrev pub packets_from : ℕ → List (Option Contents) → List Contents
-packets_from next places = map packet_in (drop next places)
-
--- a place that has a packet
-abbrev pub IsTakenPlace : Option Contents → Type 0
-IsTakenPlace place = is_some place ≡ true
+-- a list of packets with its counts, of the packets and of their bytes
+pub record IsCounted (packets : List Contents) (count bytes : ℕ) : Type 0 where
+  pub few : length packets ≤ most_handed
+  pub count_is : count ≡ length packets
+  pub bytes_are : bytes ≡ sum_by (λ (c : Contents). length c.packet.bytes) packets
+  pub fits : bytes ≤ longest_packet * count
 
 -- a packet that is handed over has one to three legs, of which the last is of this generation
 pub record IsHanded (generation : ℕ) (c : Contents) : Type 0 where
@@ -26,7 +26,7 @@ pub record IsHanded (generation : ℕ) (c : Contents) : Type 0 where
   pub few : length c.legs ≤ 3
   pub last : last_generation c.legs ≡ generation
 
--- a frame has a packet at least, and has room for them
+-- a frame has 1 to 256 packets, each of which may be handed over under its generation
 pub record IsHandFrame (frame : HandoffFrame) : Type 0 where
   pub some : 1 ≤ length frame.packets
   pub few : length frame.packets ≤ most_handed

@@ -27,7 +27,7 @@ impl Model for HandFrame {
 }
 
 impl HandFrame {
-    /// The packets that this node hands over, under this generation.
+    /// The packets that this node hands over, under this generation. It touches the block of each.
     pub fn new(node: u16, generation: u32, packets: HandPackets) -> HandFrame
         requires { IsHandFrame (record { node = node; generation = generation; packets = packets }) }
         ensures { result ≡ record { node = node; generation = generation; packets = packets } }
@@ -35,7 +35,7 @@ impl HandFrame {
         HandFrame {
             node,
             generation,
-            packets,
+            packets: packets.oldest_first(),
         }
     }
 

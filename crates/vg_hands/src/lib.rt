@@ -9,4 +9,4 @@ mod tests;
 
 pub use hand_frames::HandFrame;
 pub use handoffs::{Counted, Handoff};
-pub use packets::{HandPackets, Unpacked};
+pub use packets::{HandPackets, MOST_HANDED, Unpacked};

@@ -1,53 +1,59 @@
 //! Lists of packets that are handed over.
 ghost use Rattle.std.specs.Prelude.{◌≡◌, ◌<◌, ◌≤◌, [], ◌∷◌, ◌++◌, length, sum_by, MatchOption};
 ghost use Rattle.vg_pool.specs.Contents.{Contents};
-ghost use Rattle.vg_hands.specs.Handed.{most_handed, packet_in};
+ghost use Rattle.vg_hands.specs.Handed.{most_handed};
 
-use arrayvec::ArrayVec;
 use std::marker::Model;
-use vg_pool::Buffer;
+use std::mem;
+use vg_pool::{Buffer, BufferStack};
 
 /// The most packets of a frame that is handed over.
 pub const MOST_HANDED: usize = 256;
 
 /// At most [`MOST_HANDED`] buffers, oldest first.
+///
+/// It is six words, whatever the number of its buffers: they are stacked through their blocks. Both counts are kept, so to ask for
+/// them touches no block.
 #[derive(Drop)]
 pub struct HandPackets {
-    places: ArrayVec<Option<Buffer>, MOST_HANDED>,
+    // The oldest buffers, oldest first.
+    front: BufferStack,
+    // Those behind them, newest first.
+    back: BufferStack,
+    count: usize,
+    // How many bytes the packets have.
+    bytes: usize,
 }
 
 impl Model for HandPackets {
-    ghost use Rattle.std.specs.Prelude.{List, ℕ, length, ◌≤◌};
-    ghost use Rattle.std.specs.List.{AllByRecursion};
+    ghost use Rattle.std.specs.Prelude.{List};
     ghost use Rattle.vg_pool.specs.Contents.{Contents};
-    ghost use Rattle.vg_hands.specs.Handed.{packets_from, IsTakenPlace};
+    ghost use Rattle.vg_hands.specs.Handed.{in_line, IsCounted};
 
     ghost Value = { List Contents };
 
-    ghost view = { λ p. packets_from 0 p.places.items };
+    ghost view = { λ p. in_line p.front p.back };
 
-    ghost invariant = { λ p. (length p.places.items ≤ 256) × AllByRecursion IsTakenPlace p.places.items };
+    ghost invariant = { λ p. IsCounted (in_line p.front p.back) p.count p.bytes };
 }
 
 /// Buffers that are taken out of such a list, oldest first.
 #[derive(Drop)]
 pub struct Unpacked {
-    places: ArrayVec<Option<Buffer>, MOST_HANDED>,
-    // Buffers were taken out of the places before this one.
-    next: usize,
+    // The oldest buffers, oldest first.
+    front: BufferStack,
+    // Those behind them, newest first.
+    back: BufferStack,
 }
 
 impl Model for Unpacked {
-    ghost use Rattle.std.specs.Prelude.{List, ℕ, length, drop, ◌≤◌};
-    ghost use Rattle.std.specs.List.{AllByRecursion};
+    ghost use Rattle.std.specs.Prelude.{List};
     ghost use Rattle.vg_pool.specs.Contents.{Contents};
-    ghost use Rattle.vg_hands.specs.Handed.{packets_from, IsTakenPlace};
+    ghost use Rattle.vg_hands.specs.Handed.{in_line};
 
     ghost Value = { List Contents };
 
-    ghost view = { λ p. packets_from p.next p.places.items };
-
-    ghost invariant = { λ p. (p.next ≤ length p.places.items) × (length p.places.items ≤ 256) × AllByRecursion IsTakenPlace (drop p.next p.places.items) };
+    ghost view = { λ p. in_line p.front p.back };
 }
 
 impl HandPackets {
@@ -56,7 +62,10 @@ impl HandPackets {
         ensures { result ≡ [] }
     {
         HandPackets {
-            places: ArrayVec::new(),
+            front: BufferStack::new(),
+            back: BufferStack::new(),
+            count: 0,
+            bytes: 0,
         }
     }
 
@@ -65,18 +74,14 @@ impl HandPackets {
         ensures count { result ≡ length self.now }
         ensures few { length self.now ≤ most_handed }
     {
-        self.places.len()
+        self.count
     }
 
     /// How many bytes its packets have.
     pub fn count_bytes(&self) -> usize
         ensures { result ≡ sum_by (λ (c : Contents). length c.packet.bytes) self.now }
     {
-        let mut total = 0;
-        'places: for place in self.places.as_slice() {
-            total += bytes_in(place);
-        }
-        total
+        self.bytes
     }
 
     /// Adds a packet behind the others.
@@ -84,7 +89,25 @@ impl HandPackets {
         requires { length self.old < most_handed }
         ensures { self.new ≡ self.old ++ buffer ∷ [] }
     {
-        self.places.push(Some(buffer));
+        self.count += 1;
+        self.bytes += buffer.bytes().len();
+        self.back.push(buffer);
+    }
+
+    // The same packets. Where none stands in the front all are put there, so that to take them out in order touches each block once.
+    // This itself touches each block, so it is for the one who put the packets in, and has the blocks at hand.
+    pub(crate) fn oldest_first(self) -> HandPackets
+        ensures { result ≡ self }
+    {
+        if !self.front.is_empty() {
+            return self;
+        }
+        HandPackets {
+            front: self.back.reversed(),
+            back: BufferStack::new(),
+            count: self.count,
+            bytes: self.bytes,
+        }
     }
 
     /// Its buffers, to be taken out.
@@ -92,33 +115,22 @@ impl HandPackets {
         ensures { result ≡ self }
     {
         Unpacked {
-            places: self.places,
-            next: 0,
+            front: self.front,
+            back: self.back,
         }
     }
 }
 
 impl Unpacked {
-    /// Takes the oldest packet out.
+    /// Takes the oldest packet out. `None` exactly where there is none. Of the blocks it touches this packet's alone; but where the front
+    /// is used up, first those of all packets behind it.
     pub fn take_first(&mut self) -> Option<Buffer>
         ensures { MatchOption result ((self.old ≡ []) × (self.new ≡ [])) (λ buffer. self.old ≡ buffer ∷ self.new) }
     {
-        if self.next == self.places.len() {
-            return None;
+        if self.front.is_empty() {
+            let back = mem::replace(&mut self.back, BufferStack::new());
+            self.front = back.reversed();
         }
-        let buffer = self.places.as_mut_slice()[self.next].take();
-        self.next += 1;
-        buffer
-    }
-}
-
-// How many bytes the packet of a place has.
-fn bytes_in(place: &Option<Buffer>) -> usize
-    ensures bytes { result ≡ length (packet_in place.now).packet.bytes }
-    ensures few { result ≤ 2048 }
-{
-    match place {
-        Some(buffer) => buffer.bytes().len(),
-        None => 0,
+        self.front.pop()
     }
 }

@@ -1,11 +1,10 @@
 -- What a buffer carries: a packet, and the legs that it has done so far.
-use Rattle.std.specs.Prelude.{◌≡◌, ℕ, ◌≤◌, true, List, [], length, take, None}
+use Rattle.std.specs.Prelude.{◌≡◌, ℕ, ◌≤◌, List, [], length, None}
 use Rattle.vg_model.specs.Packet.{Packet, fresh}
 use Rattle.vg_model.specs.Bytes.{overwritten}
 use Rattle.vg_model.specs.Valid.{IsPacket}
 use Rattle.vg_model.specs.Visit.{datagram, header_fault}
 use Rattle.vg_model.specs.declared.fates.Leg.{Leg}
-use Rattle.vg_pool.specs.declared.buffers.Block.{Block}
 
 -- a packet and its legs
 pub record Contents : Type 0 where
@@ -37,17 +36,3 @@ pub record AreContents (c : Contents) : Type 0 where
   pub packet : IsPacket c.packet
   pub fits : length c.packet.bytes ≤ longest_packet
   pub few_legs : length c.legs ≤ 4
-
--- what a block carries: of its bytes, those in use
-abbrev pub contents : Block → Contents
-contents b =
-    record {
-      packet = record { number = b.number; bytes = take b.len b.bytes; checked = b.checked; adjacency = b.adjacency; interface = b.interface };
-      legs = b.legs;
-    }
-
--- what holds of every block in a buffer
-pub record IsBlock (b : Block) : Type 0 where
-  pub fits : b.len ≤ longest_packet
-  pub sound : b.checked ≡ true → Passes (contents b).packet
-  pub few_legs : length b.legs ≤ 4

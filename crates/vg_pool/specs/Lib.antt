@@ -1,3 +1,4 @@
 pub mod Contents
+pub mod Blocks
 pub mod Settlement
 pub mod Moves

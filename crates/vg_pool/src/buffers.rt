@@ -2,6 +2,7 @@
 ghost use Rattle.std.specs.Prelude.{◌≡◌, ◌+◌, ◌<◌, ◌≤◌, true, false, Some, IfOk, [], ◌∷◌, ◌++◌, length};
 ghost use Rattle.vg_model.specs.Valid.{AreBytes};
 
+use crate::stacks::BufferStack;
 use std::alloc::{AllocError, Global};
 use std::marker::Model;
 use vg_model::{Leg, Legs};
@@ -10,8 +11,11 @@ use vg_model::{Leg, Legs};
 pub const LONGEST_PACKET: usize = 2048;
 
 // The memory of a buffer. The metadata stands in front, next to the packet's first bytes.
+#[cycle(stack)]
 #[derive(Drop)]
-struct Block {
+pub(crate) struct Block {
+    // The buffers below this one where it is in a stack; else none.
+    pub(crate) below: BufferStack,
     number: u32,
     checked: bool,
     adjacency: Option<u16>,
@@ -29,28 +33,31 @@ struct Block {
 /// must be freed to come back to its pool: one that is dropped never does.
 #[derive(Drop)]
 pub struct Buffer {
-    block: Box<Block>,
+    pub(crate) block: Box<Block>,
 }
 
 impl Model for Buffer {
-    ghost use Rattle.vg_pool.specs.Contents.{Contents, contents, IsBlock};
+    ghost use Rattle.vg_pool.specs.Contents.{Contents};
+    ghost use Rattle.vg_pool.specs.Blocks.{contents, IsAlone};
 
     ghost Value = { Contents };
 
     ghost view = { λ b. contents b.block.value };
 
-    ghost invariant = { λ b. IsBlock b.block.value };
+    ghost invariant = { λ b. IsAlone b.block.value };
 }
 
 impl Block {
-    ghost use Rattle.vg_pool.specs.Contents.{contents, IsBlock, nothing};
+    ghost use Rattle.vg_pool.specs.Contents.{nothing};
+    ghost use Rattle.vg_pool.specs.Blocks.{contents, IsAlone};
 
     // No packet.
     fn new() -> Block
         ensures contents { contents result ≡ nothing }
-        ensures block { IsBlock result }
+        ensures block { IsAlone result }
     {
         Block {
+            below: BufferStack::new(),
             number: 0,
             checked: false,
             adjacency: None,

@@ -10,7 +10,7 @@ use std::sync::Wait;
 use std::sync::ledger::{Blank, Ledger};
 use std::test::Fail;
 use vg_model::Leg;
-use vg_pool::{Buffer, Cache, LockedPool, Pool, PoolLedger, Settled};
+use vg_pool::{Buffer, BufferStack, Cache, LockedPool, Pool, PoolLedger, Settled};
 
 // A pool of 300 with two caches: buffers are taken, allocated and freed, one of them into the other cache, and settled. What came
 // of it.
@@ -236,6 +236,40 @@ fn a_packet_is_put_into_a_buffer_and_changed(rt: HostRuntime) -> Result<(), Fail
     Ok(())
 }
 
+#[test]
+fn a_stack_gives_its_buffers_back_from_the_last(rt: HostRuntime) -> Result<(), Fail> {
+    let mut stack = BufferStack::new();
+    assert!(rt; stack.is_empty());
+    for (number, bytes) in [
+        (7, b"abc".as_slice()),
+        (8, b"".as_slice()),
+        (9, b"defgh".as_slice()),
+    ] {
+        let mut buffer = buffer_anew(&rt, rt.alloc())?;
+        buffer.fill(number, bytes);
+        stack.push(buffer);
+    }
+    assert!(rt; !stack.is_empty());
+
+    let ninth = stack.pop().ok_or("the buffer that was pushed last")?;
+    assert_eq!(rt; ninth.number(), 9);
+    assert_eq!(rt; ninth.bytes(), b"defgh".as_slice());
+    let mut stack = stack.reversed();
+    let seventh = stack.pop().ok_or("the buffer that was pushed first")?;
+    assert_eq!(rt; seventh.number(), 7);
+    assert_eq!(rt; seventh.bytes(), b"abc".as_slice());
+    stack.push(ninth);
+    let ninth = stack.pop().ok_or("the buffer that was pushed again")?;
+    assert_eq!(rt; ninth.number(), 9);
+    let eighth = stack.pop().ok_or("the buffer that was pushed second")?;
+    assert_eq!(rt; eighth.number(), 8);
+    assert!(rt; eighth.bytes().is_empty());
+    assert!(rt; stack.is_empty());
+    assert!(rt; stack.pop().is_none());
+    assert!(rt; stack.pop().is_none());
+    Ok(())
+}
+
 // A type whose values may go to another thread.
 fn crosses_threads<T: Send>() {}
 
@@ -244,6 +278,7 @@ fn is_shared<T: Sync>() {}
 
 fn parts_cross_threads<T: PoolLedger + Send, G: Ledger + Send>() {
     crosses_threads::<Buffer>();
+    crosses_threads::<BufferStack>();
     crosses_threads::<Cache<T, G>>();
     crosses_threads::<Pool<T, G>>();
     crosses_threads::<LockedPool<T, G>>();
