@@ -12,8 +12,6 @@
 #![tactic(auto)]
 
 pub mod backlogs;
-#[cfg(test)]
-mod tests;
 mod waiting;
 
 pub use backlogs::{Backlog, backlogs_of};

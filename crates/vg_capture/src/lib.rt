@@ -15,6 +15,3 @@ pub use errors::CaptureError;
 pub use layout::{LARGEST_FILE, LONGEST_RECORD};
 pub use reading::read_capture;
 pub use writing::{Savefile, write_capture};
-
-#[cfg(test)]
-mod tests;

@@ -11,8 +11,6 @@ pub mod laws;
 mod pushes;
 mod reporting;
 mod saves;
-#[cfg(test)]
-mod tests;
 pub mod verdicts;
 
 pub use checks::check;

@@ -8,8 +8,6 @@
 #![tactic(auto)]
 
 pub mod counting;
-#[cfg(test)]
-mod tests;
 pub mod tracing;
 
 pub use counting::{Counters, ERRORS, total};

@@ -5,8 +5,6 @@ mod counts;
 pub mod drawing;
 pub mod laws;
 mod lines;
-#[cfg(test)]
-mod tests;
 mod words;
 
 pub use drawing::draw;

@@ -5,7 +5,5 @@
 #![tactic(auto)]
 
 pub mod forks;
-#[cfg(test)]
-mod tests;
 
 pub use forks::Fork;

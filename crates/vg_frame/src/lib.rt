@@ -16,8 +16,6 @@ mod node_set;
 mod queues;
 mod spares;
 pub mod store;
-#[cfg(test)]
-mod tests;
 
 pub use frames::{FRAME_SIZE, Frame};
 pub use memory::{BufferMemory, MOST_PLACED};

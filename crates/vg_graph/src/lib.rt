@@ -11,6 +11,3 @@ mod start;
 
 pub use errors::GraphError;
 pub use graphs::{Graph, MOST_ADJACENCIES, MOST_INTERFACES, MOST_NODES};
-
-#[cfg(test)]
-mod tests;

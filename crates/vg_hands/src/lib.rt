@@ -4,8 +4,6 @@
 pub mod hand_frames;
 pub mod handoffs;
 pub mod packets;
-#[cfg(test)]
-mod tests;
 
 pub use hand_frames::HandFrame;
 pub use handoffs::{Counted, Handoff};

@@ -5,8 +5,6 @@ mod frames;
 pub mod laws;
 mod packets;
 mod summaries;
-#[cfg(test)]
-mod tests;
 
 pub use packets::load_capture;
 pub use summaries::{Load, summary};

@@ -11,8 +11,6 @@ pub mod ip4;
 pub mod kinds;
 pub mod laws;
 pub mod sorted;
-#[cfg(test)]
-mod tests;
 
 pub use dispatch::dispatch_frame;
 pub use entries::Entries;

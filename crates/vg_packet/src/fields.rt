@@ -19,6 +19,3 @@ pub fn u32_at(bytes: &[u8], place: usize) -> u32
 {
     BigEndian::read_u32(&bytes[place..])
 }
-
-#[cfg(test)]
-mod tests;

@@ -50,6 +50,3 @@ fn mixed(key: u32) -> u32
     let half = key ^ (key >> 16);
     half ^ (half >> 8)
 }
-
-#[cfg(test)]
-mod tests;

@@ -5,8 +5,6 @@ mod copies;
 mod queue;
 mod schedule;
 mod states;
-#[cfg(test)]
-mod tests;
 mod timers;
 
 pub use schedule::{Due, Processes};

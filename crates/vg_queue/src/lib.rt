@@ -21,8 +21,6 @@ mod ends;
 mod logs;
 mod making;
 mod rest;
-#[cfg(test)]
-mod tests;
 
 pub use closing::close;
 pub use ends::{Full, QueueRx, QueueTx};

@@ -10,8 +10,6 @@ mod inputs;
 pub mod legs;
 pub mod replaying;
 mod schedules;
-#[cfg(test)]
-mod tests;
 mod times;
 pub mod trips;
 mod underway;

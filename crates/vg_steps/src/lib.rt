@@ -16,8 +16,6 @@ mod notes;
 mod seats;
 mod steps;
 mod tables;
-#[cfg(test)]
-mod tests;
 
 pub use atomic_table::{Closed, Join, Play, Refused, Split, TableRule};
 pub use notes::{Found, Noted};

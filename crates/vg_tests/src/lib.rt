@@ -1,9 +1,11 @@
-//! Tests of the larger crates, a module for each, over the built libraries: beside the code they would have the whole crate proved
-//! once more. It is tests alone.
+//! Tests of the crates that read, keep and write values and texts, a module for each, over the built libraries: beside the code
+//! they would have the whole crate proved once more. It is tests alone.
 #![tactic(auto)]
 
 #[cfg(test)]
-mod barrier;
+mod capture;
+#[cfg(test)]
+mod draw;
 #[cfg(test)]
 mod explain;
 #[cfg(test)]
@@ -11,12 +13,26 @@ mod fates;
 #[cfg(test)]
 mod fib;
 #[cfg(test)]
+mod graph;
+#[cfg(test)]
+mod load;
+#[cfg(test)]
+mod model;
+#[cfg(test)]
 mod outside;
+#[cfg(test)]
+mod packet;
 #[cfg(test)]
 mod plan;
 #[cfg(test)]
-mod pool;
+mod process;
 #[cfg(test)]
 mod report;
 #[cfg(test)]
 mod script;
+#[cfg(test)]
+mod turns;
+#[cfg(test)]
+mod walk;
+#[cfg(test)]
+mod words;

@@ -1,6 +1,7 @@
 //! Folders and sinks, called through their traits.
 
 mod faulty;
+mod gates;
 mod saves;
 
 use std::fs;

@@ -1,4 +1,6 @@
-//! Tests of the reader, of its refusals, and of the lists of a script.
+//! Tests of the reader, of its refusals, of the lists of a script, and of its text.
+
+mod writing;
 
 use std::alloc::Global;
 use std::process::Abort;

@@ -13,8 +13,6 @@
 
 mod reading;
 mod steps;
-#[cfg(test)]
-mod tests;
 
 pub use reading::{MOST_BYTES, Turns};
 pub use steps::Step;

@@ -7,8 +7,6 @@
 
 pub mod logs;
 mod packets;
-#[cfg(test)]
-mod tests;
 mod visits;
 pub mod walking;
 

@@ -10,6 +10,3 @@ mod reading;
 
 pub use commands::{Check, Command, Run};
 pub use reading::read_words;
-
-#[cfg(test)]
-mod tests;
