@@ -16,7 +16,7 @@ const LEG: Leg = Leg {
     generation: 3,
 };
 
-// A frame of node 12, under generation 3, with packets 7 and 8, which have 3 and 5 bytes.
+// A frame of node 12, under generation 3, with packets 7 and 8, which have 3 and 5 bytes. The second is added to a frame of the first.
 fn frame<T: PoolLedger, G: Ledger>(cache: &mut Cache<T, G>) -> Result<HandFrame, Fail>
     requires { cache.old.allocated < 2 ^ 61 }
     ensures packets { IfOk result (λ frame. length frame.packets ≡ 2) }
@@ -30,6 +30,7 @@ fn frame<T: PoolLedger, G: Ledger>(cache: &mut Cache<T, G>) -> Result<HandFrame,
     second.add_leg(LEG);
     let mut packets = HandPackets::new();
     packets.push(first);
+    let mut packets = HandFrame::new(12, 3, packets).into_packets();
     packets.push(second);
     Ok(HandFrame::new(12, 3, packets))
 }

@@ -267,6 +267,10 @@ fn a_stack_gives_its_buffers_back_from_the_last(rt: HostRuntime) -> Result<(), F
     assert!(rt; stack.is_empty());
     assert!(rt; stack.pop().is_none());
     assert!(rt; stack.pop().is_none());
+
+    stack.push(seventh);
+    stack.push(eighth);
+    drop(stack);
     Ok(())
 }
 
