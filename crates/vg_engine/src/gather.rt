@@ -20,15 +20,6 @@ pub(crate) struct Gathered {
     pub trace: TraceLists,
 }
 
-// The fates of all lists in the order of their numbers.
-fn by_number(mut fates: FateList) -> FateList
-    ensures same { IsPermutation fates result }
-    ensures rising { IsNonDecreasingBy (λ fate. fate.number) result }
-{
-    fates.sort();
-    fates
-}
-
 // Whether the packets sent stand in the order of their numbers.
 fn are_sent_in_order(sent: &SentList) -> bool
     ensures { OnTrue result (IsNonDecreasing (map (λ (packet : ℕ × List ℕ). packet.0) sent.now)) }
@@ -79,7 +70,7 @@ pub(crate) fn gather(
     ensures counts { IfOk result (λ all. IsTotal counters.now.items all.counts) }
     ensures trace { IfOk result (λ all. IsMerged traces.now.items all.trace) }
 {
-    let fates = by_number(FateList::joined(alloc, logs)?);
+    let fates = FateList::by_number(alloc, logs)?;
     let sent = sent_by_number(SentList::joined(alloc, sent)?);
     let counts = total(alloc, counters.as_slice())?;
     let trace = merge(alloc, traces.as_slice())?;

@@ -1,6 +1,6 @@
 //! What became of packets, as workers log it.
-ghost use Rattle.std.specs.Prelude.{◌≡◌, ◌+◌, ◌<◌, ◌≤◌, ◌^◌, ◌++◌, ◌∷◌, [], ℕ, List, IfOk, IfSome, flat_map, length, map, All, Some, slice_get};
-ghost use Rattle.std.specs.Bool.{OnTrue};
+ghost use Rattle.std.specs.Prelude.{◌≡◌, ◌+◌, ◌<◌, ◌≤◌, ◌^◌, ◌++◌, ◌∷◌, [], ℕ, List, IfOk, IfSome, IsSome, flat_map, length, map, All, Some, slice_get};
+ghost use Rattle.std.specs.Bool.{OnTrue, OnFalse};
 ghost use Rattle.std.specs.List.{AllByRecursion};
 ghost use Rattle.std.specs.List.Sorted.{IsPermutation, IsNonDecreasingBy};
 ghost use Rattle.vg_model.specs.declared.fates.Fate.{Fate};
@@ -169,6 +169,17 @@ fn number_of(others: &[Fate], entry: LogEntry) -> u32
     }
 }
 
+// Whether the first of these entries is the next one: it is where there is no second, or that has no smaller number.
+fn is_next(others: &[Fate], first: Option<&LogEntry>, second: Option<&LogEntry>) -> bool
+    ensures first { OnTrue result (IsSome first.entry) }
+    ensures second { IsSome first.entry → OnFalse result (IsSome second.entry) }
+{
+    match (first, second) {
+        (Some(first), Some(second)) => number_of(others, *first) <= number_of(others, *second),
+        (first, _) => first.is_some(),
+    }
+}
+
 // Puts each fate at the place of its number. Answers whether all stand there: they do where their numbers are those of the places.
 fn put_in_place(entries: &mut [LogEntry], others: &[Fate]) -> bool
     ensures same { IsPermutation entries.old entries.new }
@@ -239,25 +250,54 @@ fn fate_of(others: &[Fate], entry: LogEntry) -> Fate
     }
 }
 
-// Entries, and behind them those of another log, whose others stand so many places further on.
-fn followed_by(
-    mut entries: Vec<LogEntry>,
-    more: Vec<LogEntry>,
-    places: u32,
-) -> Result<Vec<LogEntry>, AllocError>
-    requires { AllByRecursion (CanMove places) more.items }
-    ensures { IfOk result (λ all. all.items ≡ entries.items ++ map (moved_behind places) more.items) }
+// An entry where so many others of another log stand in front of those of its own.
+fn moved(entry: LogEntry, places: u32) -> LogEntry
+    requires { CanMove places entry }
+    ensures { result ≡ moved_behind places entry }
 {
-    for entry in more {
-        let entry = match entry {
-            LogEntry::Other { place } => LogEntry::Other {
-                place: place + places,
-            },
-            plain => plain,
-        };
-        entries.push(entry)?;
+    match entry {
+        LogEntry::Other { place } => LogEntry::Other {
+            place: place + places,
+        },
+        plain => plain,
     }
-    Ok(entries)
+}
+
+// All entries of a log, so moved.
+fn all_moved(mut entries: Vec<LogEntry>, places: u32) -> Vec<LogEntry>
+    requires { AllByRecursion (CanMove places) entries.items }
+    ensures { result.items ≡ map (moved_behind places) entries.items }
+{
+    for entry in entries.iter_mut() {
+        *entry = moved(*entry, places);
+    }
+    entries
+}
+
+// The entries of two lists of one log, each time the one with the smaller number next: lists in the order of their numbers come to
+// one that has it, and of others each entry comes near its place.
+fn merged(
+    alloc: Global,
+    entries: &[LogEntry],
+    more: &[LogEntry],
+    others: &[Fate],
+) -> Result<Vec<LogEntry>, AllocError>
+    ensures { IfOk result (λ all. IsPermutation (entries.now ++ more.now) all.items) }
+{
+    let count = entries.len() + more.len();
+    let mut all = Vec::with_capacity(alloc, count)?;
+    let mut first = 0;
+    let mut second = 0;
+    for _place in 0..count {
+        if is_next(others, entries.get(first), more.get(second)) {
+            all.push_reserved(entries[first]);
+            first += 1;
+        } else {
+            all.push_reserved(more[second]);
+            second += 1;
+        }
+    }
+    Ok(all)
 }
 
 impl FateList {
@@ -271,27 +311,37 @@ impl FateList {
         }
     }
 
-    /// The fates of all these lists, one list behind the other.
+    /// The fates of all these lists, in the order of their numbers.
     ///
     /// # Errors
     ///
     /// [`Memory`] where memory runs out, or there are 2^32 fates or more. It takes none where there is one list.
-    pub fn joined(alloc: Global, lists: Vec<FateList>) -> Result<FateList, Memory>
-        ensures { IfOk result (λ fates. fates ≡ flat_map (λ (list : List Fate). list) lists.items) }
+    pub fn by_number(alloc: Global, lists: Vec<FateList>) -> Result<FateList, Memory>
+        ensures same { IfOk result (λ fates. IsPermutation (flat_map (λ (list : List Fate). list) lists.items) fates) }
+        ensures rising { IfOk result (λ fates. IsNonDecreasingBy (λ fate. fate.number) fates) }
+    {
+        let mut fates = FateList::joined(alloc, lists)?;
+        fates.sort();
+        Ok(fates)
+    }
+
+    // The fates of all these lists, each near its place in the order of their numbers.
+    fn joined(alloc: Global, lists: Vec<FateList>) -> Result<FateList, Memory>
+        ensures { IfOk result (λ fates. IsPermutation (flat_map (λ (list : List Fate). list) lists.items) fates) }
     {
         let mut lists = lists.into_iter();
         let Some(mut fates) = lists.next() else {
             return Ok(FateList::new(alloc));
         };
         for list in lists {
-            fates = fates.with(list)?;
+            fates = fates.with(alloc, list)?;
         }
         Ok(fates)
     }
 
-    // Its fates, and behind them those of another list.
-    fn with(self, other: FateList) -> Result<FateList, Memory>
-        ensures { IfOk result (λ fates. fates ≡ self ++ other) }
+    // Its fates and those of another list, merged by their numbers.
+    fn with(self, alloc: Global, other: FateList) -> Result<FateList, Memory>
+        ensures { IfOk result (λ fates. IsPermutation (self ++ other) fates) }
     {
         let FateList {
             entries,
@@ -310,7 +360,13 @@ impl FateList {
         let Ok(()) = others.append(&mut more_others) else {
             return Err(Memory);
         };
-        let Ok(entries) = followed_by(entries, more, places) else {
+        let more = all_moved(more, places);
+        let Ok(entries) = merged(
+            alloc,
+            entries.as_slice(),
+            more.as_slice(),
+            others.as_slice(),
+        ) else {
             return Err(Memory);
         };
         Ok(FateList { entries, others })
@@ -352,8 +408,8 @@ impl FateList {
         }
     }
 
-    /// Puts the fates in the order of their numbers. Those of all packets of a capture aren't sorted: each goes to its place.
-    pub fn sort(&mut self)
+    // Puts the fates in the order of their numbers. Those of all packets of a capture aren't sorted: each goes to its place.
+    fn sort(&mut self)
         ensures same { IsPermutation self.old self.new }
         ensures rising { IsNonDecreasingBy (λ fate. fate.number) self.new }
     {

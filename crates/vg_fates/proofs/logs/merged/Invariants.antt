@@ -1,0 +1,15 @@
+use Rattle.std.proofs.Common.{◌≡◌, ◌+◌, ◌≤◌, ◌++◌, length, take}
+use Rattle.std.specs.Prelude.{vec_capacity}
+use Rattle.std.specs.List.Sorted.{IsPermutation}
+use Rattle.vg_fates.proofs.logs.merged.Given as goal
+
+abbrev pub invariant-loop-place : goal.invariant-loop-place
+invariant-loop-place l = record {
+  places : l.first + l.second ≡ l._place;
+  first : l.first ≤ length l.entries;
+  second : l.second ≤ length l.more;
+  count : l.count ≡ length l.entries + length l.more;
+  so_far : length l.all.items ≡ l._place;
+  room : l.count ≤ vec_capacity l.all;
+  same : IsPermutation (take l.first l.entries ++ take l.second l.more) l.all.items;
+}
