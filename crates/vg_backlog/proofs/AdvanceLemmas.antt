@@ -1,11 +1,14 @@
 -- What a tick keeps.
-use Rattle.std.proofs.Common.{◌≡◌, ℕ, ◌≤◌, inl, inr, List, [], ◌∷◌, ◌++◌, length, sym, ap, ◌∙◌, subst, arith, append_assoc, length-append}
+use Rattle.std.proofs.Common.{◌≡◌, ℕ, ◌+◌, ◌≤◌, ◌⊎◌, ⊎_elim, inl, inr, List, [], ◌∷◌, ◌++◌, length, refl, sym, ap, ◌∙◌, subst, arith, append_assoc, length-append}
 use Rattle.std.specs.Prelude.{Option, None, Some, option_to_list, MatchOption}
 use Rattle.std.proofs.lemmas.List.Sums.{sum_by-cons}
 use Rattle.vg_ring.specs.declared.ends.RingTx.{RingTx}
-use Rattle.vg_ring.specs.Ends.{put, head_seen, IsSameTx}
+use Rattle.vg_steps.specs.Trails.{found}
+use Rattle.vg_ring.specs.Ends.{put, head_seen, tx_slots, tx_trail, IsSameTx}
+use Rattle.vg_ring.specs.WordPlaces.{head_word, tail_word}
+use Rattle.vg_hands.specs.Filling.{GoesOn, EndsFull}
 use Rattle.vg_journeys.specs.Accounts.{HandoffFrame}
-use Rattle.vg_backlog.specs.Books.{packets_in, Accepts, Advances}
+use Rattle.vg_backlog.specs.Books.{packets_in, Accepts, Refuses, Advances}
 use Rattle.vg_backlog.specs.Queues.{Store, IsHolding}
 
 -- frames that were accepted stay so, in order
@@ -50,6 +53,53 @@ advances_rises before (frame ∷ frames) after left (inl step) =
     let rest = advances_rises step.0 frames after left step.2 in
     omega (arith, one, rest)
 advances_rises before (frame ∷ frames) after left (inr stop) = stop.0.rises
+
+-- the steps of pushes
+pub accepts_steps : (frame : HandoffFrame) (before after : RingTx HandoffFrame) → Accepts frame before after → GoesOn before after
+accepts_steps frame before after is = (found tail_word (length (put after)) ∷ is.written.0 ∷ [], is.written.1)
+
+pub refuses_steps : (before after : RingTx HandoffFrame) → Refuses before after → GoesOn before after
+refuses_steps before after is = (found head_word (head_seen after) ∷ [], is.read)
+
+steps_then : (a b c : RingTx HandoffFrame) → GoesOn a b → GoesOn b c → GoesOn a c
+steps_then a b c one two = (two.0 ++ one.0, two.1 ∙ ap (λ ts. two.0 ++ ts) one.1 ∙ sym (append_assoc two.0 one.0 (tx_trail a)))
+
+pub advances_steps : (before : RingTx HandoffFrame) (held : List HandoffFrame) (after : RingTx HandoffFrame) (left : List HandoffFrame) → Advances before held after left
+    → GoesOn before after
+advances_steps before [] after left is = ([], ap tx_trail is.0)
+advances_steps before (frame ∷ frames) after left (inl step) =
+    steps_then before step.0 after (accepts_steps frame before step.0 step.1) (advances_steps step.0 frames after left step.2)
+advances_steps before (frame ∷ frames) after left (inr stop) = refuses_steps before after stop.0
+
+-- either no frame is left, or the last step found the ring full
+pub advances_full : (before : RingTx HandoffFrame) (held : List HandoffFrame) (after : RingTx HandoffFrame) (left : List HandoffFrame) → Advances before held after left
+    → (length left ≡ 0) ⊎ EndsFull before after
+advances_full before [] after left is = inl (ap length is.1)
+advances_full before (frame ∷ frames) after left (inl step) =
+    ⊎_elim (λ none. inl none) (λ (full : EndsFull step.0 after). inr (later full)) (advances_full step.0 frames after left step.2)
+  where
+    later : EndsFull step.0 after → EndsFull before after
+    later full =
+        let one = step.1.same in
+        let rest = full.same in
+        record {
+          last = full.last;
+          same = (rest.0 ∙ one.0, rest.1 ∙ one.1, rest.2 ∙ one.2);
+          earlier = steps_then before step.0 full.last (accepts_steps frame before step.0 step.1) full.earlier;
+          put_is = full.put_is;
+          read = full.read;
+          by_the_head = full.by_the_head;
+          rule = full.rule;
+        }
+advances_full before (frame ∷ frames) after left (inr stop) = inr (record {
+  last = before;
+  same = (refl, refl, refl);
+  earlier = ([], refl);
+  put_is = stop.0.put_is;
+  read = stop.0.read;
+  by_the_head = (let full = stop.0.by_the_head in let slots = stop.0.same.1 in let same = ap length stop.0.put_is in omega (arith, full, slots, same));
+  rule = stop.0.rule;
+})
 
 -- the frame behind the first comes to the front
 pub popped : (result : Option HandoffFrame) (old new : Store) → MatchOption result ((old.frames ≡ []) × (new ≡ old)) (λ frame. old ≡ record new { frames = frame ∷ new.frames })

@@ -3,9 +3,11 @@ use Rattle.std.proofs.Common.{◌≡◌, ℕ, ◌+◌, ◌≤◌, ◌⊎◌, inl
 use Rattle.std.specs.Prelude.{◌≢◌, ◌||◌, nat_le, nat_lt}
 use Rattle.std.proofs.lemmas.Bool.{le-leb, leb-true, lt-ltb, ltb-true}
 use Rattle.std.proofs.lemmas.List.Sums.{sum_by_push}
-use Rattle.vg_ring.specs.Ends.{put, head_seen, IsSameTx}
+use Rattle.vg_ring.specs.Ends.{put, head_seen, tx_trail, IsSameTx}
+use Rattle.vg_hands.specs.Filling.{GoesOn}
 use Rattle.vg_journeys.specs.Accounts.{HandoffFrame}
 use Rattle.vg_backlog.specs.Books.{BacklogBook, accepted_by, packets_in, room_of, is_closed, Accepts, Refuses}
+use Rattle.vg_backlog.proofs.AdvanceLemmas.{accepts_steps, refuses_steps}
 
 -- where no fewer frames are held and there is no more room, a gate stays closed
 pub closed_more : (old new : BacklogBook) (packets : ℕ) → new.slots ≡ old.slots → length old.held ≤ length new.held → room_of new ≤ room_of old → is_closed old packets ≡ true → is_closed new packets ≡ true
@@ -29,6 +31,8 @@ pub record Tells (item : HandoffFrame) (old new : BacklogBook) : Type 0 where
   pub room_after : room_of old ≤ room_of new + length item.packets
   pub room_most : room_of new ≤ room_of old
   pub held : length old.held ≤ length new.held
+  pub one : length new.held ≤ length old.held + 1
+  pub steps : GoesOn old.end new.end
   pub end : IsSameTx old.end new.end
   pub rises : head_seen old.end ≤ head_seen new.end
 
@@ -43,6 +47,8 @@ tells_behind item old new room held end =
       room_after = omega (arith, more, push, room);
       room_most = omega (arith, more, push, room);
       held = omega (arith, long, length-append old.held (item ∷ []));
+      one = omega (arith, long, length-append old.held (item ∷ []));
+      steps = ([], ap tx_trail end);
       end = (cc, cc, cc);
       rises = (let same = ap head_seen end in omega (arith, same));
     }
@@ -58,6 +64,8 @@ tells_first item old new room none (inl goes) =
       room_after = omega (arith, before, after, room);
       room_most = omega (arith, before, after, room);
       held = (let e = ap length none in omega (arith, e));
+      one = (let e = ap length goes.1 in omega (arith, e));
+      steps = accepts_steps item old.end new.end goes.0;
       end = goes.0.same;
       rises = goes.0.rises;
     }
@@ -70,6 +78,8 @@ tells_first item old new room none (inr waits) =
       room_after = omega (arith, before, after, push, room);
       room_most = omega (arith, before, after, push, room);
       held = (let e = ap length none in omega (arith, e));
+      one = (let e = ap length waits.1 in omega (arith, e));
+      steps = refuses_steps old.end new.end waits.0;
       end = waits.0.same;
       rises = waits.0.rises;
     }

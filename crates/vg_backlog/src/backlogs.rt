@@ -1,6 +1,7 @@
 //! Backlogs.
 ghost use Rattle.std.specs.Prelude.{ℕ, true, ◌≡◌, ◌≢◌, ◌⊎◌, ◌+◌, ◌≤◌, ◌<◌, ◌^◌, [], ◌∷◌, ◌++◌, length, map, option_to_list, IsOk, IfOk, IfErr};
 ghost use Rattle.vg_ring.specs.Ends.{head_seen, IsSameTx};
+ghost use Rattle.vg_hands.specs.Filling.{GoesOn, EndsFull};
 ghost use Rattle.vg_backlog.specs.Books.{empty_behind, accepted_by, packets_in, room_of, is_closed, Accepts, Refuses, Advances};
 
 use crate::waiting::Waiting;
@@ -140,11 +141,13 @@ fn count_packets(frame: &Option<HandFrame>) -> usize
 }
 
 impl Handoff<HandFrame> for Backlog {
-    ghost use Rattle.std.specs.Prelude.{true, length, refl};
+    ghost use Rattle.std.specs.Prelude.{true, [], length, refl};
     ghost use Rattle.vg_ring.specs.Ends.{tx_ring, tx_slots};
     ghost use Rattle.vg_backlog.specs.Books.{accepted_by, room_of, is_closed};
 
     ghost accepted = { accepted_by };
+
+    ghost refusals = { λ b. [] };
 
     ghost end = { λ b. b.end };
 
@@ -175,6 +178,8 @@ impl Handoff<HandFrame> for Backlog {
         ensures gate { (room : ℕ) → is_closed self.old room ≡ true → is_closed self.new room ≡ true }
         ensures same { (self.new.slots ≡ self.old.slots) × (self.new.room ≡ self.old.room) }
         ensures end { IsSameTx self.old.end self.new.end }
+        ensures steps { GoesOn self.old.end self.new.end }
+        ensures waiting { (length self.old.held ≤ length self.new.held) × (length self.new.held ≤ length self.old.held + 1) }
         ensures head_rises { head_seen self.old.end ≤ head_seen self.new.end }
         ensures behind { self.old.held ≢ [] → (self.new.held ≡ self.old.held ++ item ∷ []) × (self.new.end ≡ self.old.end) }
         ensures first { self.old.held ≡ [] → (Accepts item self.old.end self.new.end × (self.new.held ≡ [])) ⊎ (Refuses self.old.end self.new.end × (self.new.held ≡ item ∷ [])) }
@@ -190,6 +195,9 @@ impl Handoff<HandFrame> for Backlog {
         ensures gate { (room : ℕ) → is_closed self.new room ≡ true → is_closed self.old room ≡ true }
         ensures same { (self.new.slots ≡ self.old.slots) × (self.new.room ≡ self.old.room) }
         ensures end { IsSameTx self.old.end self.new.end }
+        ensures steps { GoesOn self.old.end self.new.end }
+        ensures waiting { length self.new.held ≤ length self.old.held }
+        ensures ticks { (length self.new.held ≡ 0) ⊎ EndsFull self.old.end self.new.end }
         ensures head_rises { head_seen self.old.end ≤ head_seen self.new.end }
         ensures advances { Advances self.old.end self.old.held self.new.end self.new.held }
     {

@@ -32,9 +32,7 @@ fn marks_of<P: Parcel>(alloc: Global, parcels: &Vec<P>) -> Result<Vec<u64>, Memo
 {
     let mut marks = Vec::new(alloc);
     for parcel in parcels {
-        let Ok(()) = marks.push(parcel.mark()) else {
-            return Err(Memory);
-        };
+        marks.push(parcel.mark())?;
     }
     Ok(marks)
 }
@@ -45,9 +43,7 @@ fn words_of(alloc: Global, marks: &Vec<u64>) -> Result<Vec<u64>, Memory>
     ensures { IfOk result (λ words. AreFirstWords words.items marks.now.items) }
 {
     let workers = marks.len();
-    let Ok(mut words) = vec![in alloc; 0; workers * APART + MARKS] else {
-        return Err(Memory);
-    };
+    let mut words = vec![in alloc; 0; workers * APART + MARKS]?;
     words[ARRIVALS] = workers as u64;
     for k in 0..marks.len() {
         words[k * APART + MARKS] = marks[k];
@@ -61,9 +57,7 @@ fn slots_of<P: Drop>(alloc: Global, parcels: Vec<P>) -> Result<Vec<Option<Stampe
 {
     let mut slots = Vec::new(alloc);
     for parcel in parcels {
-        let Ok(()) = slots.push(Some(Stamped { stamp: 0, parcel })) else {
-            return Err(Memory);
-        };
+        slots.push(Some(Stamped { stamp: 0, parcel }))?;
     }
     Ok(slots)
 }
@@ -121,12 +115,8 @@ where
         ensures { IfOk result (λ parts. IsMade book parcels.items parts) }
     {
         let workers = parcels.len();
-        let Ok(room) = Vec::with_capacity(alloc, workers) else {
-            return Err(Memory);
-        };
-        let Ok(mut running) = Vec::with_capacity(alloc, workers) else {
-            return Err(Memory);
-        };
+        let room = Vec::with_capacity(alloc, workers)?;
+        let mut running = Vec::with_capacity(alloc, workers)?;
         let (barrier, mut seat) = Barrier::lay(alloc, book, parcels)?;
         for k in 0..workers {
             // The first request word that a worker reads is 0, so it runs.

@@ -1,4 +1,4 @@
--- The limits of what is read.
+-- For `read_is_a_capture`: the limits of what is read.
 use Rattle.std.proofs.Common.{◌≡◌, ◌≢◌, ℕ, zero, suc, ◌+◌, ◌<◌, ◌≤◌, ◌^◌, Bool, true, false, List, [], ◌∷◌, length, take, drop, get_or, refl, sym, ap, subst, ◌∙◌, arith, inl, inr}
 use Rattle.std.specs.Prelude.{Option, Some, None, Result, Ok, Err, IfOk, nat_lt, not, ◌==◌, ◌&&◌, All, slice_index}
 use Rattle.std.proofs.lemmas.Bool.{lt-ltb, cases_lt}
@@ -10,7 +10,8 @@ use Rattle.vg_capture.specs.declared.captures.Capture.{Capture}
 use Rattle.vg_capture.specs.declared.captures.Captured.{Captured}
 use Rattle.vg_capture.specs.declared.errors.CaptureError.{CaptureError}
 use Rattle.vg_capture.specs.declared.errors.CaptureError.TheVariants as errors
-use Rattle.vg_capture.specs.Savefile.{◌>>=◌, refused_if, AnswersRead, IsUnlessMemory, Order, number16, number32, captured_of, records_at, records_of, capture_in, capture_by, capture_of, unit_of, most_records, largest_file, longest_record, magic_len, file_header_len, record_header_len, major_version, minor_version, ethernet}
+use Rattle.vg_capture.specs.Savefile.{◌>>=◌, refused_if, AnswersRead, IsUnlessMemory, Order, number16, number32, captured_of, records_at, records_of, capture_in, capture_by, capture_of, unit_of}
+use Rattle.vg_capture.specs.Savefile.{most_records, largest_file, longest_record, magic_len, file_header_len, record_header_len, major_version, minor_version, ethernet}
 use Rattle.vg_capture.specs.RoundTrip.{IsCaptured, IsCapture}
 use Rattle.vg_capture.proofs.RecordLemmas.{stopped}
 

@@ -7,6 +7,7 @@ use crate::records::{head, number_at};
 use std::alloc::{AllocError, Global};
 use std::marker::Model;
 use vg_model::Bytes;
+use vg_model::limits::MOST_PACKETS;
 
 /// A captured packet: a record of a savefile.
 #[derive(Drop)]
@@ -50,9 +51,6 @@ pub struct Packets {
     big: bool,
     places: Vec<Place>,
 }
-
-/// The most packets that a capture has.
-pub const MOST_PACKETS: usize = 65_536;
 
 impl Model for Packets {
     ghost use Rattle.std.specs.Prelude.{List};
@@ -231,4 +229,11 @@ pub struct Sent {
     pub number: u32,
     /// The bytes that were transmitted.
     pub bytes: Bytes,
+}
+
+/// A capture has no more than 65,536 packets, as a proof may need to be told.
+pub fn know_few(capture: &Capture)
+    ensures { length capture.now.packets ≤ 65536 }
+{
+    let _count = capture.packets.len();
 }

@@ -2,11 +2,11 @@
 ghost use Rattle.std.specs.Prelude.{◌≡◌};
 ghost use Rattle.vg_capture.specs.declared.errors.CaptureError.TheVariants.{Memory as OutOfMemory};
 
-use crate::captures::MOST_PACKETS;
 use crate::layout::{LARGEST_FILE, LONGEST_RECORD};
 use std::alloc::{AllocError, AllocFailed};
 use std::error::Error;
 use std::fmt;
+use vg_model::limits::MOST_PACKETS;
 
 /// The first check of a savefile that fails. An offset is a place in the file, in bytes.
 #[derive(Clone, Copy, Debug, PartialEq, Eq)]

@@ -10,7 +10,7 @@ mod records;
 pub mod times;
 mod writing;
 
-pub use captures::{Capture, Captured, MOST_PACKETS, Marks, Packets, Sent, Stretch};
+pub use captures::{Capture, Captured, Marks, Packets, Sent, Stretch, know_few};
 pub use errors::CaptureError;
 pub use layout::{LARGEST_FILE, LONGEST_RECORD};
 pub use reading::read_capture;

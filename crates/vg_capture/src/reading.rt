@@ -3,7 +3,7 @@ ghost use Rattle.std.specs.Prelude.{◌≡◌, ◌+◌, ◌≤◌, Err, Ok, IfOk
 ghost use Rattle.vg_capture.specs.Places.{ArePlaces, captured_in};
 ghost use Rattle.vg_capture.specs.Savefile.{AnswersRead, IsOrder, IsUnlessMemory, unit_of, number16, number32, capture_in, records_of};
 
-use crate::captures::{Capture, MOST_PACKETS, Packets, Place};
+use crate::captures::{Capture, Packets, Place};
 use crate::errors::CaptureError;
 use crate::layout::{
     FILE_HEADER_LEN, LARGEST_FILE, LINKTYPE_ETHERNET, LONGEST_RECORD, MAGIC_LEN, MAJOR_VERSION,
@@ -12,6 +12,7 @@ use crate::layout::{
 use byteorder::{BigEndian, ByteOrder, LittleEndian};
 use std::alloc::Global;
 use vg_model::Bytes;
+use vg_model::limits::MOST_PACKETS;
 
 /// Reads a savefile (pcap-savefile(5)) of Ethernet packets.
 ///

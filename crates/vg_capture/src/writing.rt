@@ -87,14 +87,6 @@ pub fn write_capture(alloc: Global, capture: &Capture, sent: &[Sent]) -> Result<
     requires { AreWithin (length capture.now.packets) sent.now }
     ensures { IfOk result (λ bytes. bytes ≡ savefile capture.now (pairs sent.now)) }
 {
-    put_all(alloc, capture, sent).map_err(|_| Memory)
-}
-
-/// The savefile of the packets sent.
-fn put_all(alloc: Global, capture: &Capture, sent: &[Sent]) -> Result<Bytes, AllocError>
-    requires { AreWithin (length capture.now.packets) sent.now }
-    ensures { IfOk result (λ bytes. bytes ≡ savefile capture.now (pairs sent.now)) }
-{
     let mut file = Savefile::begin(alloc, capture, savefile_len(sent))?;
     for one in sent {
         file.put(capture, one.number, one.bytes.as_slice())?;

@@ -6,7 +6,6 @@ pub mod OneWorkerLemmas
 pub mod LawLemmas
 pub mod OutputLemmas
 pub mod AlikeLemmas
-pub mod GrowthLemmas
 pub mod EntryLemmas
 pub mod AgreementLemmas
 pub mod PushLemmas

@@ -10,6 +10,7 @@ use Rattle.vg_model.specs.declared.fates.End.{End}
 use Rattle.vg_model.specs.declared.fates.End.TheVariants as ends
 use Rattle.vg_model.specs.Errors.{all_errors, error_number}
 use Rattle.vg_model.specs.Graph.{Graph, Node, error_drop}
+use Rattle.vg_model.specs.Growth.{Grows}
 use Rattle.vg_model.specs.Leg.{Outcome}
 use Rattle.vg_model.specs.Journey.{Journey, Course, end_of}
 use Rattle.vg_model.specs.Lawful.{AreLawful}
@@ -18,8 +19,9 @@ use Rattle.vg_model.specs.Valid.{IsKindSet, AreBytes}
 use Rattle.vg_model.proofs.Journeys.{then_some, map_some}
 use Rattle.vg_model.proofs.LegEnds.{all_at}
 use Rattle.vg_counters.specs.Tally.{drops_at}
-use Rattle.vg_journeys.specs.Ends.{IsEndIn, Grows}
+use Rattle.vg_journeys.specs.Ends.{IsEndIn}
 use Rattle.vg_plan.specs.Plan.{IsPlan, IsGeneration}
+use Rattle.vg_plan.proofs.GrowthLemmas.{grows_to_last}
 use Rattle.vg_script.specs.Events.{events}
 use Rattle.vg_script.proofs.EventLemmas.{events_are_few}
 use Rattle.vg_report.specs.declared.reports.Report.{Report}
@@ -34,7 +36,6 @@ use Rattle.vg_check.specs.Output.{last_graph, frames_of, choices_of, choice_of, 
 use Rattle.vg_check.specs.Points.{IsHead, setting_of, ArePushesLawful}
 use Rattle.vg_check.specs.Reports.{counted, made_entry, made_of, made_by, all_made, reported, trace_of, CanReport}
 use Rattle.vg_check.specs.Verdicts.{Case, first_of, task_by, report_by}
-use Rattle.vg_check.proofs.GrowthLemmas.{grows_to_last}
 use Rattle.vg_check.proofs.JourneyLemmas.{IsOwn, chosen, chosen_are, own_journeys, chosen_lawfully}
 use Rattle.vg_check.proofs.LawfulLemmas.{IsReportable, lawful_with_counts}
 use Rattle.vg_check.proofs.ToldLemmas.{told_of, as_many, told_at, lines_same, traces_same}

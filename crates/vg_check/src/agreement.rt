@@ -9,9 +9,10 @@ ghost use Rattle.vg_report.specs.Seen.{line_seen, end_seen};
 ghost use Rattle.vg_check.specs.Output.{interface_name, node_name, named_end};
 ghost use Rattle.vg_check.specs.Reports.{line_by, lines_by, trace_of as trace, reported, with_counts, CanReport};
 
-use crate::reporting::{ERROR_DROP, errors, interfaces, nodes};
+use crate::reporting::{errors, interfaces, nodes};
 use std::alloc::{AllocError, Global};
 use vg_graph::Graph;
+use vg_model::start::ERROR_DROP;
 use vg_model::{DropError, Leg, Memory, Name};
 use vg_replay::{Outcome, Replayed, Trip, Trips};
 use vg_report::{EndRef, LineRef, Names, PacketLines, Report};
@@ -209,8 +210,12 @@ fn all_five(a: bool, b: bool, c: bool, d: bool, e: bool) -> bool
     a && b && c && d && e
 }
 
-// Whether the parts of a report are those of what came of packets.
-fn agrees(alloc: Global, report: &Report, replayed: &Replayed) -> Result<bool, AllocError>
+/// Whether a report is that of what came of packets, with its own head and as many traces as it has.
+pub(crate) fn is_reported(
+    alloc: Global,
+    report: &Report,
+    replayed: &Replayed,
+) -> Result<bool, Memory>
     requires { CanReport report.now replayed.now }
     ensures same { IfOk result (λ same. IsTrue same ↔ (report.now ≡ reported report.now replayed.now)) }
     ensures lawful { IfOk result (λ same. IsLawful (with_counts (reported report.now replayed.now))) }
@@ -227,20 +232,4 @@ fn agrees(alloc: Global, report: &Report, replayed: &Replayed) -> Result<bool, A
     let errors = are_errors(report.errors.as_slice(), errors.as_slice());
     let lines = are_lines(graph, &report.packets, trips);
     Ok(all_five(interfaces, nodes, errors, lines, traces))
-}
-
-/// Whether a report is that of what came of packets, with its own head and as many traces as it has.
-pub(crate) fn is_reported(
-    alloc: Global,
-    report: &Report,
-    replayed: &Replayed,
-) -> Result<bool, Memory>
-    requires { CanReport report.now replayed.now }
-    ensures same { IfOk result (λ same. IsTrue same ↔ (report.now ≡ reported report.now replayed.now)) }
-    ensures lawful { IfOk result (λ same. IsLawful (with_counts (reported report.now replayed.now))) }
-{
-    match agrees(alloc, report, replayed) {
-        Ok(same) => Ok(same),
-        Err(_) => Err(Memory),
-    }
 }

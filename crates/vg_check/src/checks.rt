@@ -14,23 +14,18 @@ use crate::verdicts::Verdict;
 use std::alloc::Global;
 use vg_capture::Capture;
 use vg_model::Memory;
+use vg_model::limits::{FRAME_SIZE, MOST_BUFFERS};
 use vg_nodes::KindSet;
 use vg_plan::Plan;
 use vg_replay::{Input, ReplayError, replay};
 use vg_report::{Report, ReportCause, read_report};
-
-/// The most buffers of a run.
-const MOST_BUFFERS: u32 = 16_384;
-
-/// How many buffers there are at least for each worker and for the pool.
-const BURST: u32 = 256;
 
 // Whether a report's head fits a plan and a capture.
 fn is_head(plan: &Plan, capture: &Capture, report: &Report) -> bool
     requires { IsLawful report.now }
     ensures { IsTrue result ↔ IsHead plan.now capture.now report.now }
 {
-    BURST * u32::from(report.workers) + BURST <= report.buffers
+    FRAME_SIZE as u32 * u32::from(report.workers) + FRAME_SIZE as u32 <= report.buffers
         && report.buffers <= MOST_BUFFERS
         && report.generations == plan.generations()
         && report.packets.len() == capture.count() as usize

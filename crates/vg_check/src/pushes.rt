@@ -5,11 +5,9 @@ ghost use Rattle.vg_model.specs.Lawful.{hands_in, last_worker as last_of};
 ghost use Rattle.vg_check.specs.Hands.{AreHands, AreRefusalsBelow, IsFirstUnlawful, IsOnWorkers, IsRefusalOf, handed};
 
 use vg_model::Leg;
+use vg_model::limits::MOST_WORKERS;
 use vg_replay::{Outcome, Trip, Trips};
 use vg_report::PacketLines;
-
-/// The most workers.
-const WORKERS: u8 = 8;
 
 // Counts a packet that goes over from the one worker to the other.
 fn count_hand(counts: &mut [u64; 64], from: u8, to: u8)
@@ -17,7 +15,7 @@ fn count_hand(counts: &mut [u64; 64], from: u8, to: u8)
     requires few { slice_index counts.old (from * 8 + to) ≤ 262144 }
     ensures { (f t : ℕ) → f < 8 → t < 8 → slice_index counts.new (f * 8 + t) ≡ slice_index counts.old (f * 8 + t) + (if from == f && to == t then 1 else 0) }
 {
-    counts[usize::from(from * WORKERS + to)] += 1;
+    counts[usize::from(from * MOST_WORKERS + to)] += 1;
 }
 
 // Counts how often a packet goes over from each worker to each other.
@@ -77,7 +75,7 @@ fn is_lawful(
     let Outcome::Handed { worker, .. } = trip.outcome() else {
         return false;
     };
-    slots <= accepted && accepted <= counts[from as usize * 8 + worker as usize]
+    slots <= accepted && accepted <= counts[from as usize * MOST_WORKERS as usize + worker as usize]
 }
 
 /// The number of the first packet whose refused push may not have been; None where there is none.

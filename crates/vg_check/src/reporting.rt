@@ -1,7 +1,6 @@
 //! The counts of a report of what came of packets.
 ghost use Rattle.std.specs.Prelude.{◌≡◌, ◌++◌, ◌<◌, ◌≤◌, length, IfOk, OnOk};
 ghost use Rattle.vg_model.specs.Errors.{all_errors};
-ghost use Rattle.vg_model.specs.Name.{IsName};
 ghost use Rattle.vg_check.specs.Reports.{counted, made_of, made_by, all_made, AreNames};
 
 use std::alloc::{AllocError, Global};
@@ -9,18 +8,6 @@ use vg_counters::Counters;
 use vg_graph::Graph;
 use vg_model::{DropError, Name};
 use vg_report::{ErrorCounts, NameCounts};
-
-/// The number of the node that drops packets.
-pub(crate) const ERROR_DROP: u16 = 8;
-
-// The same name once more.
-fn copied(name: &Name) -> Name
-    ensures same { result ≡ name.now }
-    ensures name { IsName result }
-{
-    let _bytes = name.bytes();
-    name.clone().unwrap()
-}
 
 /// The interfaces by number, each with the packets that were transmitted on it.
 pub(crate) fn interfaces(
@@ -34,7 +21,7 @@ pub(crate) fn interfaces(
 {
     let mut entries = Vec::with_capacity(alloc, usize::from(graph.interfaces()))?;
     for n in 0..graph.interfaces() {
-        let name = copied(&graph.interface_at(n).name);
+        let name = graph.interface_at(n).name.copied();
         entries.push((name, counts.sends(n)))?;
     }
     Ok(NameCounts::from_vec(entries))
@@ -52,7 +39,7 @@ pub(crate) fn nodes(
 {
     let mut entries = Vec::with_capacity(alloc, usize::from(graph.nodes()))?;
     for n in 0..graph.nodes() {
-        entries.push((copied(graph.node_name(n)), counts.visits(n)))?;
+        entries.push((graph.node_name(n).copied(), counts.visits(n)))?;
     }
     Ok(NameCounts::from_vec(entries))
 }
@@ -70,7 +57,7 @@ fn put_errors(
     for error in DropError::ALL.iter() {
         let count = counts.drops(node, *error);
         if count > 0 {
-            entries.push((copied(name), *error, count))?;
+            entries.push((name.copied(), *error, count))?;
         }
     }
     Ok(())

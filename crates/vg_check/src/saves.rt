@@ -80,9 +80,7 @@ pub(crate) fn is_saved(
     requires { length trips.now ≤ length capture.now.packets }
     ensures { IfOk result (λ same. IsTrue same ↔ (file.now ≡ savefile capture.now (sent_from 0 trips.now))) }
 {
-    let Ok(header) = Savefile::begin(alloc, capture, Savefile::room(0, 0)) else {
-        return Err(Memory);
-    };
+    let header = Savefile::begin(alloc, capture, Savefile::room(0, 0))?;
     let header = header.end();
     match behind(file, header.as_slice()) {
         Some(records) => Ok(are_records(capture, trips, records)),

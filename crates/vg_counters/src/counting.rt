@@ -5,10 +5,8 @@ ghost use Rattle.vg_counters.specs.Tally.{nothing_counted, more_at, drops_at, on
 
 use std::alloc::Global;
 use std::marker::Model;
+use vg_model::kinds::ERRORS;
 use vg_model::{DropError, Memory};
-
-/// How many errors there are.
-pub const ERRORS: usize = 19;
 
 /// How often nodes were visited, how many packets each dropped with each error, and how many packets interfaces transmitted.
 ///
@@ -110,15 +108,9 @@ impl Counters {
     fn sized(alloc: Global, nodes: usize, interfaces: usize) -> Result<Counters, Memory>
         ensures { IfOk result (λ counters. counters ≡ nothing_counted nodes interfaces) }
     {
-        let Ok(visits) = vec![in alloc; 0; nodes] else {
-            return Err(Memory);
-        };
-        let Ok(drops) = vec![in alloc; [0; ERRORS]; nodes] else {
-            return Err(Memory);
-        };
-        let Ok(sends) = vec![in alloc; 0; interfaces] else {
-            return Err(Memory);
-        };
+        let visits = vec![in alloc; 0; nodes]?;
+        let drops = vec![in alloc; [0; ERRORS]; nodes]?;
+        let sends = vec![in alloc; 0; interfaces]?;
         Ok(Counters {
             visits,
             drops,

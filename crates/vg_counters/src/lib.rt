@@ -10,5 +10,5 @@
 pub mod counting;
 pub mod tracing;
 
-pub use counting::{Counters, ERRORS, total};
-pub use tracing::{LEGS, MOST_NOTED, Trace, TraceLists, merge};
+pub use counting::{Counters, total};
+pub use tracing::{MOST_NOTED, Trace, TraceLists, merge};

@@ -6,9 +6,7 @@ use arrayvec::ArrayVec;
 use std::alloc::{AllocError, Global};
 use std::marker::Model;
 use vg_model::Memory;
-
-/// The most legs of a packet.
-pub const LEGS: usize = 4;
+use vg_model::limits::MOST_LEGS;
 
 /// The most nodes that are noted for a packet and one of its legs.
 pub const MOST_NOTED: usize = 68;
@@ -20,7 +18,7 @@ type LegNodes = ArrayVec<u16, MOST_NOTED>;
 #[derive(Drop)]
 pub struct Trace {
     // By packet number and then by leg.
-    packets: Vec<[LegNodes; LEGS]>,
+    packets: Vec<[LegNodes; MOST_LEGS]>,
 }
 
 impl Model for Trace {
@@ -54,19 +52,15 @@ impl Trace {
     pub fn new(alloc: Global, packets: u32) -> Result<Trace, Memory>
         ensures { IfOk result (λ trace. trace ≡ nothing_noted packets) }
     {
-        let Ok(mut rooms) = Vec::with_capacity(alloc, packets as usize) else {
-            return Err(Memory);
-        };
+        let mut rooms = Vec::with_capacity(alloc, packets as usize)?;
         for _ in 0..packets {
-            let legs: [LegNodes; LEGS] = [
+            let legs: [LegNodes; MOST_LEGS] = [
                 ArrayVec::new(),
                 ArrayVec::new(),
                 ArrayVec::new(),
                 ArrayVec::new(),
             ];
-            let Ok(()) = rooms.push(legs) else {
-                return Err(Memory);
-            };
+            rooms.push(legs)?;
         }
         Ok(Trace { packets: rooms })
     }
@@ -83,7 +77,7 @@ impl Trace {
     /// A packet that is not among those of the trace is not noted, nor is a node behind [`MOST_NOTED`] others of its leg.
     pub fn note(&mut self, number: u32, leg: u8, node: u16)
         requires first { 1 ≤ leg }
-        requires last { leg ≤ LEGS }
+        requires last { leg ≤ MOST_LEGS }
         ensures { self.new ≡ noted number (leg - 1) node self.old }
     {
         if (number as usize) < self.packets.len() {
@@ -97,7 +91,7 @@ impl Trace {
     // The nodes of a packet in one of its legs, which are counted from 0.
     fn nodes(&self, number: usize, leg: usize) -> &[u16]
         requires packet { number < length self.now }
-        requires leg { leg < LEGS }
+        requires leg { leg < MOST_LEGS }
         ensures { result.now ≡ nodes_of number leg self.now }
     {
         self.packets[number][leg].as_slice()
@@ -135,7 +129,7 @@ fn append_leg(
     leg: usize,
 ) -> Result<(), AllocError>
     requires packet { All (λ part. number < length part) parts.now }
-    requires leg { leg < LEGS }
+    requires leg { leg < MOST_LEGS }
     ensures { OnOk result (nodes.new.items ≡ nodes.old.items ++ flat_map (nodes_of number leg) parts.now) }
 {
     for part in parts {
@@ -150,24 +144,10 @@ fn merged_nodes(alloc: Global, parts: &[Trace], number: usize) -> Result<Vec<u16
     ensures { IfOk result (λ nodes. nodes.items ≡ merged number parts.now) }
 {
     let mut nodes = Vec::new(alloc);
-    for leg in 0..LEGS {
+    for leg in 0..MOST_LEGS {
         append_leg(&mut nodes, parts, number, leg)?;
     }
     Ok(nodes)
-}
-
-// The nodes of all packets.
-fn merged_lists(alloc: Global, parts: &[Trace]) -> Result<TraceLists, AllocError>
-    requires some { 0 < length parts.now }
-    requires size { AreOneLength parts.now }
-    ensures { IfOk result (IsMerged parts.now) }
-{
-    let first = &parts[0];
-    let mut lists = Vec::new(alloc);
-    for number in 0..first.packets.len() {
-        lists.push(merged_nodes(alloc, parts, number)?)?;
-    }
-    Ok(TraceLists(lists))
 }
 
 /// The nodes that the packets visited on all workers, by packet: leg by leg, in each leg by the order of the parts, and then in
@@ -181,8 +161,10 @@ pub fn merge(alloc: Global, parts: &[Trace]) -> Result<TraceLists, Memory>
     requires size { AreOneLength parts.now }
     ensures { IfOk result (IsMerged parts.now) }
 {
-    match merged_lists(alloc, parts) {
-        Ok(lists) => Ok(lists),
-        Err(_) => Err(Memory),
+    let first = &parts[0];
+    let mut lists = Vec::new(alloc);
+    for number in 0..first.packets.len() {
+        lists.push(merged_nodes(alloc, parts, number)?)?;
     }
+    Ok(TraceLists(lists))
 }

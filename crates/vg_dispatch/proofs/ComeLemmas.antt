@@ -15,12 +15,11 @@ use Rattle.vg_journeys.specs.Trips.{Run, Arrival, Taken, worker_of, IsInTime}
 use Rattle.vg_journeys.specs.Accounts.{HandoffFrame, Account, came, frame_arrivals, arrivals_in, frames_with, below}
 use Rattle.vg_journeys.specs.Windows.{next_draws, mark_behind, AreThere, Comes}
 use Rattle.vg_journeys.proofs.WindowLemmas.{came_more, begins_now}
-use Rattle.vg_dispatch.specs.Peers.{by_worker}
-use Rattle.vg_dispatch.specs.Queues.{Queue}
-use Rattle.vg_dispatch.specs.Rounds.{MayTake}
-use Rattle.vg_dispatch.specs.Taking.{taken_arrivals, AreTaken}
-use Rattle.vg_dispatch.specs.Draws.{AreBelow}
-use Rattle.vg_dispatch.proofs.WorkLemmas.{all_append}
+use Rattle.vg_underway.specs.Peers.{by_worker}
+use Rattle.vg_underway.specs.Queues.{Queue}
+use Rattle.vg_underway.specs.Taking.{MayTake, taken_arrivals, AreTaken}
+use Rattle.vg_underway.specs.Draws.{AreBelow}
+use Rattle.vg_underway.proofs.WorkLemmas.{all_append}
 
 -- frames taken, by worker
 none_there : (w from : ℕ) → get_or {A = List HandoffFrame} (by_worker w [] []) from [] ≡ []

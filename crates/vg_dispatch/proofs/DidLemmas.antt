@@ -14,25 +14,25 @@ use Rattle.vg_capture.specs.declared.captures.Capture.{Capture}
 use Rattle.vg_plan.specs.Plan.{Planned, IsPlan}
 use Rattle.vg_journeys.specs.Trips.{Run, Trip}
 use Rattle.vg_journeys.specs.Counts.{IsCountIn}
-use Rattle.vg_journeys.specs.Turns.{settled_log}
+use Rattle.vg_journeys.specs.Turns.{Settled, settled_log}
 use Rattle.vg_journeys.specs.Windows.{mark_behind}
 use Rattle.vg_journeys.specs.Accounts.{HandoffFrame, Adds, frames_with, below}
 use Rattle.vg_dispatch.specs.declared.options.Options.{Options}
-use Rattle.vg_dispatch.specs.declared.underway.Work.{Work}
-use Rattle.vg_dispatch.specs.Peers.{place_among, by_worker}
-use Rattle.vg_dispatch.specs.Queues.{Intake, Queue, intake_of, Leaves, Tries, packets_in, bytes_in}
-use Rattle.vg_dispatch.specs.SentEntries.{sent_by, sent_size}
-use Rattle.vg_dispatch.specs.Outlets.{Outlet, outlet_with, no_outlet, most_in_round, IsTicked, AreTicked, ArePushes, if_congested, dropped_in_all, PushesFrames}
-use Rattle.vg_dispatch.specs.Underway.{stationed}
-use Rattle.vg_dispatch.specs.Taking.{AreTaken, MayComeNext, AreTried}
+use Rattle.vg_underway.specs.declared.underway.Work.{Work}
+use Rattle.vg_underway.specs.Peers.{place_among, by_worker}
+use Rattle.vg_underway.specs.Queues.{Intake, Queue, intake_of, Leaves, Tries, packets_in, bytes_in}
+use Rattle.vg_underway.specs.SentEntries.{sent_by, sent_size}
+use Rattle.vg_underway.specs.Outlets.{Outlet, outlet_with, no_outlet, most_in_round, IsTicked, ArePushes, if_congested, refused_at, dropped_in_all, PushesFrames}
+use Rattle.vg_underway.specs.Underway.{stationed}
+use Rattle.vg_underway.specs.Taking.{MayTake, AreTaken, MayComeNext, AreTried}
 use Rattle.vg_dispatch.specs.Workers.{WorkerBook, IsOther, intake_from, account_of}
 use Rattle.vg_dispatch.specs.Standing.{run_of, IsAtWork}
-use Rattle.vg_dispatch.specs.Rounds.{MayTake, before, MayTakeFrom, IsOpen, MayDraw, IsRoundOf}
-use Rattle.vg_dispatch.proofs.PeerLemmas.{place_within, peers_at, all_peers, peers_all, get_again, map_at}
-use Rattle.vg_dispatch.proofs.TakingLemmas.{taken_length}
+use Rattle.vg_dispatch.specs.Rounds.{before, MayTakeFrom, IsOpen, MayDraw, IsRoundOf}
+use Rattle.vg_underway.proofs.PeerLemmas.{place_within, peers_at, all_peers, peers_all, get_again, map_at}
+use Rattle.vg_underway.proofs.TakingLemmas.{taken_length}
 use Rattle.vg_dispatch.proofs.ComeLemmas.{taken_by}
-use Rattle.vg_dispatch.proofs.OwnLemmas.{below_each}
-use Rattle.vg_dispatch.proofs.RestLemmas.{account_with}
+use Rattle.vg_underway.proofs.OwnLemmas.{below_each}
+use Rattle.vg_underway.proofs.RestLemmas.{account_with}
 use Rattle.vg_dispatch.proofs.RoundLemmas.{peers_each, IsRound, round_adds}
 
 -- what contracts see of a worker with these parts
@@ -54,22 +54,6 @@ pub record IsBookOf (book : WorkerBook) (number : ℕ) (options : Options) (pack
   pub counts_are : book.counts ≡ work.counts
   pub trace_is : book.trace ≡ work.trace
   pub cache_is : book.cache ≡ cache
-
--- ticks, by worker
-ticked_at : (lossless : Bool) (os ns : List Outlet) → AreTicked lossless os ns → (k : ℕ) → IsTicked lossless (get_or os k no_outlet) (get_or ns k no_outlet)
-ticked_at lossless [] [] all k = record { head_rises = omega arith; still = λ e. (refl, refl); room = omega arith; gate = λ closed. closed }
-ticked_at lossless [] (n ∷ ns) all k = absurd all
-ticked_at lossless (o ∷ os) [] all k = absurd all
-ticked_at lossless (o ∷ os) (n ∷ ns) all zero = all.0
-ticked_at lossless (o ∷ os) (n ∷ ns) all (suc k) = ticked_at lossless os ns all.1 k
-
-pub ticked_by : (lossless : Bool) (worker : ℕ) (os ns : List Outlet) → AreTicked lossless os ns → (to : ℕ) → IsTicked lossless (outlet_with to (by_worker worker no_outlet os)) (outlet_with to (by_worker worker no_outlet ns))
-ticked_by lossless zero os ns all to = ticked_at lossless (no_outlet ∷ os) (no_outlet ∷ ns) (ticked_at lossless [] [] tt 0, all) to
-ticked_by lossless (suc n) [] [] all to = ticked_at lossless (no_outlet ∷ []) (no_outlet ∷ []) (ticked_at lossless [] [] tt 0, tt) to
-ticked_by lossless (suc n) [] (y ∷ ys) all to = absurd all
-ticked_by lossless (suc n) (x ∷ xs) [] all to = absurd all
-ticked_by lossless (suc n) (x ∷ xs) (y ∷ ys) all zero = all.0
-ticked_by lossless (suc n) (x ∷ xs) (y ∷ ys) all (suc k) = ticked_by lossless n xs ys all.1 k
 
 -- whether frames are tried, and packets drawn
 module _ (book : WorkerBook) (number : ℕ) (options : Options) (outlets : List Outlet) (number_is : book.number ≡ number) (options_are : book.options ≡ options) (within : number < options.workers) (each : length outlets + 1 ≡ options.workers) where
@@ -192,7 +176,8 @@ tries_same A B to back old new (frame ∷ []) tries = (tries.0, to frame tries.1
 tries_same A B to back old new (frame ∷ next ∷ more) tries = absurd tries
 
 -- a queue as contracts see it
-intake_at : (book : WorkerBook) (number : ℕ) (options : Options) (packets bytes mark own left : ℕ) (queues : List Queue) (accepted : List (List HandoffFrame)) (outlets : List Outlet) (work : Work) (cache : CacheBook) → IsBookOf book number options packets bytes mark own left queues accepted outlets work cache
+intake_at : (book : WorkerBook) (number : ℕ) (options : Options) (packets bytes mark own left : ℕ) (queues : List Queue) (accepted : List (List HandoffFrame)) (outlets : List Outlet) (work : Work) (cache : CacheBook)
+    → IsBookOf book number options packets bytes mark own left queues accepted outlets work cache
     → (from : ℕ) (d : Queue) → from ≢ number → from < length queues + 1 → number ≤ length queues → intake_from book from ≡ intake_of (get_or queues (place_among number from) d)
 intake_at book number options packets bytes mark own left queues accepted outlets work cache is from d other inside here =
     let place : ℕ = place_among number from in
@@ -209,7 +194,8 @@ intake_at book number options packets bytes mark own left queues accepted outlet
     ap (λ a. make a (get_or book.waits (place_among book.number from) None) (get_or book.looks from [])) t ∙ ap (λ b. make x.taken b (get_or book.looks from [])) w ∙ ap (make x.taken x.waits) l
 
 -- what it has done so far
-account_from : (book : WorkerBook) (number : ℕ) (options : Options) (packets bytes mark own left : ℕ) (queues : List Queue) (accepted : List (List HandoffFrame)) (outlets : List Outlet) (work : Work) (cache other : CacheBook) → IsBookOf book number options packets bytes mark own left queues accepted outlets work cache
+account_from : (book : WorkerBook) (number : ℕ) (options : Options) (packets bytes mark own left : ℕ) (queues : List Queue) (accepted : List (List HandoffFrame)) (outlets : List Outlet) (work : Work)
+    (cache other : CacheBook) → IsBookOf book number options packets bytes mark own left queues accepted outlets work cache
     → other.allocated ≡ cache.allocated → other.freed ≡ cache.freed → account_of book ≡ account_with number mark (by_worker number [] (map (λ (q : Queue). q.taken) queues)) (by_worker number [] accepted) work other
 account_from book number options packets bytes mark own left queues accepted outlets work cache other is allocated freed =
     let a : book.cache.allocated ≡ other.allocated = ap (λ (b : CacheBook). b.allocated) is.cache_is ∙ sym allocated in
@@ -240,13 +226,13 @@ sum_mapped [] = refl
 sum_mapped (q ∷ qs) = let rest = sum_mapped qs in omega (arith, rest, sum_by-cons packets_in q.taken (map (λ (q : Queue). q.taken) qs), sum_by-cons (λ (q : Queue). packets_in q.taken) q qs)
 
 -- what is known of a round beside what it brings: how its handoffs and its cache stand, what is tried and drawn, and what is pushed
-pub record IsGated (visit : Visit) (lossless : Bool) (options : Options) (g : Graph) (generation limit number mark own left taken many most packets bytes tried more asked : ℕ) (goes draws : Bool) (took : List (List HandoffFrame)) (queues new_queues : List Queue)
+pub record IsGated (visit : Visit) (lossless : Bool) (told : List Settled → Type 0) (options : Options) (g : Graph) (generation limit number mark own left taken many most packets bytes tried more asked : ℕ) (goes draws : Bool) (took : List (List HandoffFrame)) (queues new_queues : List Queue)
     (accepted new_accepted : List (List HandoffFrame)) (outlets ticked new_outlets : List Outlet) (work new : Work) (cache filled after last : CacheBook) : Type 0 where
   pub own_mark : mark % options.workers ≡ number
   pub number_within : number < options.workers
   pub each : length ticked + 1 ≡ options.workers
   pub inputs_each : length queues + 1 ≡ options.workers
-  pub ticks : AreTicked lossless outlets ticked
+  pub ticks : (to : ℕ) → IsTicked options.queue lossless (frames_with to (by_worker number [] accepted)) (outlet_with to (by_worker number no_outlet outlets)) (outlet_with to (by_worker number no_outlet ticked))
   pub goes_is : IsTrue goes ↔ ((cache.len ≤ most_kept) × AllByRecursion (λ (o : Outlet). most_in_round options.workers ≤ o.room) ticked)
   pub draws_is : IsTrue draws ↔ (IsTrue goes × AllByRecursion (λ (o : Outlet). o.closed ≡ false) ticked)
   pub tried_is : MatchBool goes (tried ≡ length queues) (tried ≡ 0)
@@ -263,12 +249,15 @@ pub record IsGated (visit : Visit) (lossless : Bool) (options : Options) (g : Gr
   pub asked_is : MatchBool draws (asked ≡ options.burst) (asked ≡ 0)
   pub most_is : most ≡ min asked filled.len
   pub all : many < most → limit ≤ mark_behind options.workers mark many
-  pub pushed : PushesFrames options.workers options.queue lossless (by_worker number [] accepted) (by_worker number no_outlet ticked) work.fates.items (by_worker number [] new_accepted) (by_worker number no_outlet new_outlets) new.fates.items
+  pub pushed : (settled : List Settled) → told settled
+      → PushesFrames options.workers options.queue lossless (by_worker number [] accepted) (by_worker number no_outlet ticked) work.fates.items (by_worker number [] new_accepted) (by_worker number no_outlet new_outlets) new.fates.items settled
 
-pub round_did : (visit : Visit) (lossless : Bool) (plan : Planned) (capture : Capture) (options : Options) (g : Graph) (generation limit number mark own left taken many most came_count came_bytes drew_bytes : ℕ) (took : List (List HandoffFrame)) (queues new_queues : List Queue)
-    (accepted new_accepted : List (List HandoffFrame)) (slots : List ℕ) (work new : Work) (filled after : CacheBook) → IsRound visit lossless plan capture options g generation limit number mark own left taken many most came_count came_bytes drew_bytes took queues new_queues accepted new_accepted slots work new filled after
+pub round_did : {told : List Settled → Type 0} (visit : Visit) (lossless : Bool) (plan : Planned) (capture : Capture) (options : Options) (g : Graph)
+    (generation limit number mark own left taken many most came_count came_bytes drew_bytes : ℕ) (took : List (List HandoffFrame)) (queues new_queues : List Queue)
+    (accepted new_accepted : List (List HandoffFrame)) (slots : List ℕ) (work new : Work) (filled after : CacheBook)
+    → IsRound visit lossless told plan capture options g generation limit number mark own left taken many most came_count came_bytes drew_bytes took queues new_queues accepted new_accepted slots work new filled after
     → IsPlan plan → (packets bytes tried more asked : ℕ) (goes draws : Bool) (outlets ticked new_outlets : List Outlet) (cache last : CacheBook)
-    → IsGated visit lossless options g generation limit number mark own left taken many most packets bytes tried more asked goes draws took queues new_queues accepted new_accepted outlets ticked new_outlets work new cache filled after last
+    → IsGated visit lossless told options g generation limit number mark own left taken many most packets bytes tried more asked goes draws took queues new_queues accepted new_accepted outlets ticked new_outlets work new cache filled after last
     → (old_book new_book : WorkerBook) (new_own new_left : ℕ) → IsBookOf old_book number options packets bytes mark own left queues accepted outlets work cache
     → IsBookOf new_book number options packets bytes (mark_behind options.workers mark many) new_own new_left new_queues new_accepted new_outlets new last → IsRoundOf (run_of visit plan capture options) lossless g generation limit old_book new_book
 round_did visit lossless plan capture options g generation limit number mark own left taken many most came_count came_bytes drew_bytes took queues new_queues accepted new_accepted slots work new filled after r planned packets bytes tried more asked goes draws outlets ticked new_outlets cache last
@@ -286,10 +275,13 @@ round_did visit lossless plan capture options g generation limit number mark own
     let run : Run = run_of visit plan capture options in
     let old_account = account_from old_book number options packets bytes mark own left queues accepted outlets work cache filled was (ap (λ (b : CacheBook). b.allocated) k.filled_is) (ap (λ (b : CacheBook). b.freed) k.filled_is) in
     let new_account = account_from new_book number options packets bytes (mark_behind options.workers mark many) new_own new_left new_queues new_accepted new_outlets new last after is (sym k.last_allocated) (sym k.last_freed) in
-    let pushed = k.pushed in
+    let pushed = k.pushed r.over.settled r.over.tells in
     record {
       ticked = λ to. outlet_with to (by_worker number no_outlet ticked);
-      ticks = λ to. subst (λ os. IsTicked lossless (outlet_with to os) (outlet_with to (by_worker number no_outlet ticked))) (sym was.outlets_are) (ticked_by lossless number outlets ticked k.ticks to);
+      ticks = λ to.
+          subst (λ (o : Options). IsTicked o.queue lossless (frames_with to old_book.put) (outlet_with to old_book.outlets) (outlet_with to (by_worker number no_outlet ticked))) (sym options_are)
+          (subst (λ put. IsTicked options.queue lossless (frames_with to put) (outlet_with to old_book.outlets) (outlet_with to (by_worker number no_outlet ticked))) (sym was.put_is)
+          (subst (λ os. IsTicked options.queue lossless (frames_with to (by_worker number [] accepted)) (outlet_with to os) (outlet_with to (by_worker number no_outlet ticked))) (sym was.outlets_are) (k.ticks to)));
       took = by_worker number [] took;
       taken = λ from. ap (frames_with from) is.taken_is ∙ taken_by number from queues new_queues took r.taken_is ∙ ap (λ fs. frames_with from fs ++ frames_with from (by_worker number [] took)) (sym was.taken_is);
       one = λ from. peers_each (λ (frames : List HandoffFrame). length frames ≤ 1) number from took (omega arith) r.one;
@@ -331,12 +323,14 @@ round_did visit lossless plan capture options g generation limit number mark own
           let both = sum_by-append (if_congested count) work.fates.items (filter_map settled_log r.over.settled) in
           let same : dropped_in_all count old_book.options.workers pushed.pushes ≡ dropped_in_all count options.workers pushed.pushes = ap (λ (o : Options). dropped_in_all count o.workers pushed.pushes) options_are in
           omega (arith, e, all, both, same);
+      refused = λ to count. added.4 (refused_at count to) ∙ pushed.refused to count;
     }
   where
     min_least : (a b : ℕ) → min a b ≤ b
     min_least a b = omega arith
 
-    public_may : (from : ℕ) → from ≢ number → from < length took + 1 → number ≤ length took → (frame : HandoffFrame) → MayComeNext (stationed visit g generation (record { workers = options.workers; worker = number; slots = options.queue })) (record { packets = packets; bytes = bytes; own = own; left = left; taken = taken }) (length work.fates.items) (vec_len work.bytes)
+    public_may : (from : ℕ) → from ≢ number → from < length took + 1 → number ≤ length took → (frame : HandoffFrame)
+        → MayComeNext (stationed visit g generation (record { workers = options.workers; worker = number; slots = options.queue })) (record { packets = packets; bytes = bytes; own = own; left = left; taken = taken }) (length work.fates.items) (vec_len work.bytes)
         (0 + sum_by packets_in (take (place_among number from) took)) (0 + sum_by bytes_in (take (place_among number from) took)) frame ↔ MayTakeFrom g generation old_book (by_worker number [] took) from frame
     public_may from other inside here frame =
         let ps = before_is packets_in refl number from took other inside here in
@@ -408,17 +402,19 @@ round_did visit lossless plan capture options g generation limit number mark own
               ∙ ap (make (frames_with from old_book.taken) (get_or old_book.waits (place_among old_book.number from) None)) l,
         )
 
-pub did_here : (visit : Visit) (lossless : Bool) (plan : Planned) (capture : Capture) (run : Options) {v w new_book : WorkerBook} → v ≡ w → IsAtWork visit lossless plan capture run w → (g : Graph) (generation limit shown : ℕ) → limit ≡ shown
+pub did_here : {told : List Settled → Type 0} (visit : Visit) (lossless : Bool) (plan : Planned) (capture : Capture) (run : Options) {v w new_book : WorkerBook} → v ≡ w → IsAtWork visit lossless plan capture run w → (g : Graph) (generation limit shown : ℕ) → limit ≡ shown
     → (taken many most came_count came_bytes drew_bytes : ℕ) (took : List (List HandoffFrame)) (queues new_queues : List Queue) (accepted new_accepted : List (List HandoffFrame)) (slots : List ℕ) (work new : Work) (filled after : CacheBook)
-    → IsRound visit lossless plan capture v.options g generation limit v.number v.mark v.own v.left taken many most came_count came_bytes drew_bytes took queues new_queues accepted new_accepted slots work new filled after
+    → IsRound visit lossless told plan capture v.options g generation limit v.number v.mark v.own v.left taken many most came_count came_bytes drew_bytes took queues new_queues accepted new_accepted slots work new filled after
     → (tried more asked : ℕ) (goes draws : Bool) (outlets ticked new_outlets : List Outlet) (cache last : CacheBook)
-    → IsGated visit lossless v.options g generation limit v.number v.mark v.own v.left taken many most v.packets v.bytes tried more asked goes draws took queues new_queues accepted new_accepted outlets ticked new_outlets work new cache filled after last
+    → IsGated visit lossless told v.options g generation limit v.number v.mark v.own v.left taken many most v.packets v.bytes tried more asked goes draws took queues new_queues accepted new_accepted outlets ticked new_outlets work new cache filled after last
     → (new_own new_left : ℕ) → IsBookOf v v.number v.options v.packets v.bytes v.mark v.own v.left queues accepted outlets work cache
     → IsBookOf new_book v.number v.options v.packets v.bytes (mark_behind v.options.workers v.mark many) new_own new_left new_queues new_accepted new_outlets new last → IsRoundOf (run_of visit plan capture run) lossless g generation shown w new_book
-did_here visit lossless plan capture run {v} {w} {new_book} is at_work g generation limit shown same taken many most came_count came_bytes drew_bytes took queues new_queues accepted new_accepted slots work new filled after r tried more asked goes draws outlets ticked new_outlets cache last k new_own new_left was becomes =
+did_here visit lossless plan capture run {v} {w} {new_book} is at_work g generation limit shown same taken many most came_count came_bytes drew_bytes took queues new_queues accepted new_accepted slots work new filled
+    after r tried more asked goes draws outlets ticked new_outlets cache last k new_own new_left was becomes =
     let before : IsAtWork visit lossless plan capture run v = subst (IsAtWork visit lossless plan capture run) (sym is) at_work in
     subst (λ n. IsRoundOf (run_of visit plan capture run) lossless g generation n w new_book) same
     (subst (λ x. IsRoundOf (run_of visit plan capture run) lossless g generation limit x new_book) is
     (subst (λ o. IsRoundOf (run_of visit plan capture o) lossless g generation limit v new_book) before.made.options_are
-    (round_did visit lossless plan capture v.options g generation limit v.number v.mark v.own v.left taken many most came_count came_bytes drew_bytes took queues new_queues accepted new_accepted slots work new filled after r at_work.planned v.packets v.bytes tried more asked goes draws outlets ticked new_outlets
+    (round_did visit lossless plan capture v.options g generation limit v.number v.mark v.own v.left taken many most came_count came_bytes drew_bytes took queues new_queues accepted new_accepted slots work new filled
+    after r at_work.planned v.packets v.bytes tried more asked goes draws outlets ticked new_outlets
     cache last k v new_book new_own new_left was becomes)))

@@ -17,19 +17,20 @@ use Rattle.vg_plan.specs.Plan.{Planned, IsPlan}
 use Rattle.vg_nodes.specs.declared.sorted.Sorted.{Sorted}
 use Rattle.vg_nodes.specs.Sorting.{nothing_sorted}
 use Rattle.vg_dispatch.specs.declared.options.Options.{Options}
-use Rattle.vg_dispatch.specs.declared.underway.Work.{Work}
+use Rattle.vg_underway.specs.declared.underway.Work.{Work}
 use Rattle.vg_capture.specs.declared.captures.Captured.{Captured}
-use Rattle.vg_dispatch.specs.Progress.{AreInRange, own_from, captured_bytes}
-use Rattle.vg_dispatch.specs.SentEntries.{sent_by}
-use Rattle.vg_dispatch.specs.Rest.{IsNew}
+use Rattle.vg_underway.specs.OwnPackets.{own_from, captured_bytes}
+use Rattle.vg_dispatch.specs.Progress.{AreInRange}
+use Rattle.vg_underway.specs.SentEntries.{sent_by}
+use Rattle.vg_underway.specs.Rest.{IsNew}
 use Rattle.vg_dispatch.specs.Keeping.{IsKeeping}
 use Rattle.vg_dispatch.specs.Workers.{WorkerBook, account_of}
 use Rattle.vg_dispatch.specs.Standing.{run_of, traced_of, IsMadeFor, IsAtWork, NoneCongested}
-use Rattle.vg_dispatch.proofs.HandGroupLemmas.{all_mono}
-use Rattle.vg_dispatch.proofs.OwnLemmas.{own_fewer, own_lighter}
-use Rattle.vg_dispatch.proofs.RestLemmas.{rest_of_new, account_with}
-use Rattle.vg_dispatch.specs.Peers.{by_worker}
-use Rattle.vg_dispatch.specs.Queues.{Queue, packets_in}
+use Rattle.vg_underway.proofs.HandGroupLemmas.{all_mono}
+use Rattle.vg_underway.proofs.OwnLemmas.{own_fewer, own_lighter}
+use Rattle.vg_underway.proofs.RestLemmas.{rest_of_new, account_with}
+use Rattle.vg_underway.specs.Peers.{by_worker}
+use Rattle.vg_underway.specs.Queues.{Queue, packets_in}
 
 -- lists of nothing, by worker
 pub none_by_worker : (w k : ℕ) (xs : List (List HandoffFrame)) → AllByRecursion (λ (x : List HandoffFrame). x ≡ []) xs → frames_with k (by_worker w [] xs) ≡ []
@@ -156,7 +157,8 @@ all_of_each f P Q [] each all = tt
 all_of_each f P Q (x ∷ xs) each all = (each x all.0, all_of_each f P Q xs each all.1)
 
 -- what it has done
-pub new_account : (number packets bytes traced mark : ℕ) (t p : List (List HandoffFrame)) (work : Work) (cache : CacheBook) → IsNew packets bytes traced work → mark ≡ number → cache.allocated ≡ 0 → cache.freed ≡ 0 → account_with number mark t p work cache ≡ record (begun traced number) { taken = t; put = p }
+pub new_account : (number packets bytes traced mark : ℕ) (t p : List (List HandoffFrame)) (work : Work) (cache : CacheBook) → IsNew packets bytes traced work → mark ≡ number → cache.allocated ≡ 0 → cache.freed ≡ 0
+    → account_with number mark t p work cache ≡ record (begun traced number) { taken = t; put = p }
 new_account number packets bytes traced mark t p work cache new mark_is allocated freed =
     let a : Account = account_with number mark t p work cache in
     let b : Account = record (begun traced number) { taken = t; put = p } in

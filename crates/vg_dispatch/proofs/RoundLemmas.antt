@@ -10,6 +10,7 @@ use Rattle.vg_model.specs.Graph.{Graph}
 use Rattle.vg_model.specs.Visit.{Visit}
 use Rattle.vg_model.specs.Valid.{IsKindSet}
 use Rattle.vg_model.specs.Leg.{Outcome, Sent, Dropped, Handed}
+use Rattle.vg_pool.specs.Contents.{Contents}
 use Rattle.vg_model.specs.PoolBook.{CacheBook}
 use Rattle.vg_model.specs.declared.fates.Fate.{Fate}
 use Rattle.vg_capture.specs.declared.captures.Capture.{Capture}
@@ -17,38 +18,37 @@ use Rattle.vg_capture.specs.declared.captures.Captured.{Captured}
 use Rattle.vg_pool.specs.Moves.{most_cached}
 use Rattle.vg_plan.specs.Plan.{Planned, IsPlan, IsGeneration, limit_of, first_generation}
 use Rattle.vg_journeys.specs.Chains.{count_some}
-use Rattle.vg_journeys.specs.Trips.{Run, Arrival, Drawn, Taken, Trip, logged_by}
+use Rattle.vg_journeys.specs.Trips.{Run, Arrival, Drawn, Taken, Trip, contents_after, logged_by}
 use Rattle.vg_journeys.specs.Accounts.{HandoffFrame, Account, Adds, frame_arrivals, arrivals_in, frames_with, below, is_drawn}
 use Rattle.vg_journeys.specs.Moments.{StandsFor, begun}
 use Rattle.vg_journeys.specs.Turns.{Settled, settled_log, settled_onward, MayBeRefused, IsTurn}
 use Rattle.vg_journeys.specs.Windows.{next_draws, mark_behind}
 use Rattle.vg_journeys.proofs.AccountLemmas.{adds_more}
-use Rattle.vg_journeys.proofs.TurnLemmas.{turn_adds_counted}
+use Rattle.vg_journeys.proofs.TurnLemmas.{turn_adds_with}
 use Rattle.vg_dispatch.specs.declared.options.Options.{Options}
-use Rattle.vg_dispatch.specs.declared.stations.Station.{Station}
-use Rattle.vg_dispatch.specs.declared.underway.Work.{Work}
-use Rattle.vg_dispatch.specs.Peers.{by_worker}
-use Rattle.vg_dispatch.specs.Queues.{Queue, packets_in}
-use Rattle.vg_dispatch.specs.Progress.{own_from, captured_bytes, frames_of}
-use Rattle.vg_dispatch.specs.Round.{place_in}
-use Rattle.vg_dispatch.specs.Underway.{Setting, IsSetting, stationed}
-use Rattle.vg_dispatch.specs.Draws.{AreBelow, IsReady, arrival_len, arrival_bytes}
-use Rattle.vg_dispatch.specs.Works.{IsRightlyRefused}
+use Rattle.vg_underway.specs.declared.stations.Station.{Station}
+use Rattle.vg_underway.specs.declared.underway.Work.{Work}
+use Rattle.vg_underway.specs.Peers.{by_worker}
+use Rattle.vg_underway.specs.Queues.{Queue, packets_in}
+use Rattle.vg_underway.specs.OwnPackets.{own_from, captured_bytes, frames_of}
+use Rattle.vg_underway.specs.Round.{place_in}
+use Rattle.vg_underway.specs.Underway.{Setting, IsSetting, stationed}
+use Rattle.vg_underway.specs.Draws.{AreBelow, IsReady, arrival_len, arrival_bytes}
+use Rattle.vg_underway.specs.Works.{IsRightlyRefused}
 use Rattle.vg_journeys.specs.Counts.{IsCountIn}
-use Rattle.vg_dispatch.specs.Hands.{Delivers}
-use Rattle.vg_dispatch.specs.Rest.{IsAtRest}
+use Rattle.vg_underway.specs.Hands.{Delivers}
+use Rattle.vg_underway.specs.Rest.{IsAtRest}
 use Rattle.vg_dispatch.specs.Workers.{WorkerBook, account_of}
 use Rattle.vg_dispatch.specs.Standing.{run_of, traced_of, IsAtWork, NoneCongested}
 use Rattle.vg_dispatch.specs.Keeping.{IsKeeping}
 use Rattle.vg_nodes.specs.declared.sorted.Sorted.{Sorted}
 use Rattle.vg_nodes.specs.Sorting.{nothing_sorted}
-use Rattle.vg_dispatch.specs.Rounds.{MayTake}
-use Rattle.vg_dispatch.specs.Taking.{taken_arrivals, AreTaken}
-use Rattle.vg_dispatch.proofs.WorkLemmas.{all_append, logged_most}
-use Rattle.vg_dispatch.proofs.RestLemmas.{IsOver, account_with, turn_of, rest_after, ready_of, no_buffer_left}
-use Rattle.vg_dispatch.proofs.OwnLemmas.{own_first, below_there}
-use Rattle.vg_dispatch.proofs.TakingLemmas.{none_drawn, taken_length, taken_packets}
-use Rattle.vg_dispatch.proofs.PeerLemmas.{map_at}
+use Rattle.vg_underway.specs.Taking.{MayTake, taken_arrivals, AreTaken}
+use Rattle.vg_underway.proofs.WorkLemmas.{all_append, logged_most}
+use Rattle.vg_underway.proofs.RestLemmas.{IsOver, account_with, turn_of, rest_after, ready_of, no_buffer_left}
+use Rattle.vg_underway.proofs.OwnLemmas.{own_first, below_there}
+use Rattle.vg_underway.proofs.TakingLemmas.{none_drawn, taken_length, taken_packets}
+use Rattle.vg_underway.proofs.PeerLemmas.{map_at}
 use Rattle.vg_dispatch.proofs.ComeLemmas.{came_in_round, own_all, mark_own, time_all}
 
 -- the graph of a generation
@@ -123,17 +123,19 @@ none_logged slots lossless old new (x ∷ xs) is may all = one x.ended.outcome x
     one (Dropped node error) refused may_be counted rest none = (may_be, none)
 
 -- the round adds trips, each under its generation, with counts of the queues to their workers
-pub round_adds : (visit : Visit) (lossless : Bool) (plan : Planned) (capture : Capture) (options : Options) (g : Graph) (generation number mark many limit : ℕ) (queues new_queues : List Queue) (took : List (List HandoffFrame)) (accepted new_accepted : List (List HandoffFrame))
+pub round_adds : {told : List Settled → Type 0} (visit : Visit) (lossless : Bool) (plan : Planned) (capture : Capture) (options : Options) (g : Graph) (generation number mark many limit : ℕ)
+    (queues new_queues : List Queue) (took : List (List HandoffFrame)) (accepted new_accepted : List (List HandoffFrame))
     (work new : Work) (filled after : CacheBook) → IsKindSet visit → IsPlan plan → slice_get plan.graphs generation ≡ Some g → mark % options.workers ≡ number → AreTaken queues new_queues took → length took + 1 ≤ options.workers
     → AllByRecursion (AllByRecursion (MayTake g generation)) took → limit ≤ limit_of plan.script capture generation → limit ≤ length capture.packets → ((earlier : ℕ) → suc earlier ≡ generation → limit_of plan.script capture earlier ≤ mark) → AreBelow options.workers mark limit many
-    → IsOver (stationed visit g generation (record { workers = options.workers; worker = number; slots = options.queue })) options.queue lossless (taken_arrivals number took ++ next_draws options.workers mark many (frames_of capture.packets))
-    work filled (by_worker number [] accepted) new after (by_worker number [] new_accepted)
+    → (over : IsOver (stationed visit g generation (record { workers = options.workers; worker = number; slots = options.queue })) options.queue lossless told (taken_arrivals number took ++ next_draws options.workers mark many (frames_of capture.packets))
+    work filled (by_worker number [] accepted) new after (by_worker number [] new_accepted))
     → (trips : List Trip) × Adds (run_of visit plan capture options) (account_with number mark (by_worker number [] (map (λ (q : Queue). q.taken) queues)) (by_worker number [] accepted) work filled)
     (account_with number (mark_behind options.workers mark many) (by_worker number [] (map (λ (q : Queue). q.taken) new_queues)) (by_worker number [] new_accepted) new after) trips
     × AllByRecursion (λ (t : Trip). t.generation ≡ generation) trips
     × AllByRecursion (λ (t : Trip). IsCountIn options.queue lossless (by_worker number [] accepted) (by_worker number [] new_accepted) t.way.outcome t.refused) trips
+    × ((count : Contents → Outcome → Option ℕ → ℕ) → sum_by (λ (t : Trip). count (contents_after t) t.way.outcome t.refused) trips ≡ sum_by (λ (x : Settled). count x.ended.contents x.ended.outcome x.refused) over.settled)
 round_adds visit lossless plan capture options g generation number mark many limit queues new_queues took accepted new_accepted work new filled after kinds is there own taken few may most within now below over =
-    turn_adds_counted run (place_in s) arrivals old_account new_account lossless kinds sound.valid sound.few_nodes some there turn over.delivers.counts
+    turn_adds_with (IsCountIn options.queue lossless (by_worker number [] accepted) (by_worker number [] new_accepted)) run (place_in s) arrivals old_account new_account kinds sound.valid sound.few_nodes some there turn over.delivers.counts
   where
     s : Setting
     s = stationed visit g generation (record { workers = options.workers; worker = number; slots = options.queue })
@@ -307,7 +309,8 @@ peers_each P (suc n) zero (x ∷ xs) none all = all.0
 peers_each P (suc n) (suc k) (x ∷ xs) none all = peers_each P n k xs none all.1
 
 -- what is known of a round
-pub record IsRound (visit : Visit) (lossless : Bool) (plan : Planned) (capture : Capture) (options : Options) (g : Graph) (generation limit number mark own left taken many most came_count came_bytes drew_bytes : ℕ) (took : List (List HandoffFrame)) (queues new_queues : List Queue)
+pub record IsRound (visit : Visit) (lossless : Bool) (told : List Settled → Type 0) (plan : Planned) (capture : Capture) (options : Options) (g : Graph)
+    (generation limit number mark own left taken many most came_count came_bytes drew_bytes : ℕ) (took : List (List HandoffFrame)) (queues new_queues : List Queue)
     (accepted new_accepted : List (List HandoffFrame)) (slots : List ℕ) (work new : Work) (filled after : CacheBook) : Type 0 where
   pub kinds : IsKindSet visit
   pub there : slice_get plan.graphs generation ≡ Some g
@@ -327,7 +330,7 @@ pub record IsRound (visit : Visit) (lossless : Bool) (plan : Planned) (capture :
   pub below : AreBelow options.workers mark limit many
   pub drew : drew_bytes ≡ captured_bytes (take many (own_from options.workers mark capture.packets))
   pub own_after : own_from options.workers (mark_behind options.workers mark many) capture.packets ≡ drop many (own_from options.workers mark capture.packets)
-  pub over : IsOver (stationed visit g generation (record { workers = options.workers; worker = number; slots = options.queue })) options.queue lossless (taken_arrivals number took ++ next_draws options.workers mark many (frames_of capture.packets))
+  pub over : IsOver (stationed visit g generation (record { workers = options.workers; worker = number; slots = options.queue })) options.queue lossless told (taken_arrivals number took ++ next_draws options.workers mark many (frames_of capture.packets))
       work filled (by_worker number [] accepted) new after (by_worker number [] new_accepted)
   pub accepted_each : length new_accepted + 1 ≡ options.workers
   pub slots_are : AllByRecursion (λ n. n ≡ options.queue) slots
@@ -346,9 +349,10 @@ arrivals_many worker workers mark many took packets =
     let none = none_drawn worker took in
     (omega (arith, n, d0), omega (arith, d, d1, none))
 
-pub keeping_after : (visit : Visit) (lossless : Bool) (plan : Planned) (capture : Capture) (options : Options) (g : Graph) (generation limit number mark own left taken many most came_count came_bytes drew_bytes : ℕ) (took : List (List HandoffFrame)) (queues new_queues : List Queue)
+pub keeping_after : {told : List Settled → Type 0} (visit : Visit) (lossless : Bool) (plan : Planned) (capture : Capture) (options : Options) (g : Graph)
+    (generation limit number mark own left taken many most came_count came_bytes drew_bytes : ℕ) (took : List (List HandoffFrame)) (queues new_queues : List Queue)
     (accepted new_accepted : List (List HandoffFrame)) (old_slots slots : List ℕ) (work new : Work) (cache filled after last : CacheBook) (sorted new_sorted : Sorted) (groups new_groups : List (List ℕ))
-    → IsRound visit lossless plan capture options g generation limit number mark own left taken many most came_count came_bytes drew_bytes took queues new_queues accepted new_accepted slots work new filled after → IsPlan plan
+    → IsRound visit lossless told plan capture options g generation limit number mark own left taken many most came_count came_bytes drew_bytes took queues new_queues accepted new_accepted slots work new filled after → IsPlan plan
     → own ≡ length (own_from options.workers mark capture.packets) → left ≡ captured_bytes (own_from options.workers mark capture.packets) → filled.allocated ≡ cache.allocated → filled.freed ≡ cache.freed → last.allocated ≡ after.allocated → last.freed ≡ after.freed
     → new_sorted ≡ nothing_sorted → new_groups ≡ replicate options.workers []
     → IsKeeping number options (length capture.packets) (captured_bytes capture.packets) mark own left taken work sorted groups queues accepted old_slots cache
@@ -399,9 +403,10 @@ keeping_after visit lossless plan capture options g generation limit number mark
     }
 
 -- what the worker stands for after the round
-pub work_after : (visit : Visit) (lossless : Bool) (plan : Planned) (capture : Capture) (options : Options) (g : Graph) (generation limit number mark own left taken many most came_count came_bytes drew_bytes : ℕ) (took : List (List HandoffFrame)) (queues new_queues : List Queue)
+pub work_after : {told : List Settled → Type 0} (visit : Visit) (lossless : Bool) (plan : Planned) (capture : Capture) (options : Options) (g : Graph)
+    (generation limit number mark own left taken many most came_count came_bytes drew_bytes : ℕ) (took : List (List HandoffFrame)) (queues new_queues : List Queue)
     (accepted new_accepted : List (List HandoffFrame)) (slots : List ℕ) (work new : Work) (filled after : CacheBook) (old_book new_book : WorkerBook)
-    → IsRound visit lossless plan capture options g generation limit number mark own left taken many most came_count came_bytes drew_bytes took queues new_queues accepted new_accepted slots work new filled after
+    → IsRound visit lossless told plan capture options g generation limit number mark own left taken many most came_count came_bytes drew_bytes took queues new_queues accepted new_accepted slots work new filled after
     → IsAtWork visit lossless plan capture options old_book → old_book.number ≡ number → old_book.mark ≡ mark → old_book.own ≡ own → old_book.left ≡ left → old_book.put ≡ by_worker number [] accepted → old_book.log ≡ work.fates.items
     → account_of old_book ≡ account_with number mark (by_worker number [] (map (λ (q : Queue). q.taken) queues)) (by_worker number [] accepted) work filled
     → account_of new_book ≡ account_with number (mark_behind options.workers mark many) (by_worker number [] (map (λ (q : Queue). q.taken) new_queues)) (by_worker number [] new_accepted) new after

@@ -14,19 +14,20 @@ use Rattle.vg_journeys.specs.Accounts.{HandoffFrame}
 use Rattle.vg_journeys.specs.Windows.{next_draws}
 use Rattle.vg_nodes.specs.declared.sorted.Sorted.{Sorted}
 use Rattle.vg_dispatch.specs.declared.options.Options.{Options}
-use Rattle.vg_dispatch.specs.declared.taking.Came.{Came}
-use Rattle.vg_dispatch.specs.declared.underway.Work.{Work}
-use Rattle.vg_dispatch.specs.Queues.{Queue}
-use Rattle.vg_dispatch.specs.Progress.{AreInRange, own_from, captured_bytes, frames_of}
-use Rattle.vg_dispatch.specs.Underway.{Setting, stationed}
-use Rattle.vg_dispatch.specs.Draws.{AreBelow, IsReady, IsEntered, CanDrawOwn}
-use Rattle.vg_dispatch.specs.Taking.{TakesFrames, taken_arrivals}
-use Rattle.vg_dispatch.specs.Hands.{CanHand}
+use Rattle.vg_underway.specs.declared.taking.Came.{Came}
+use Rattle.vg_underway.specs.declared.underway.Work.{Work}
+use Rattle.vg_underway.specs.Queues.{Queue}
+use Rattle.vg_underway.specs.OwnPackets.{own_from, captured_bytes, frames_of}
+use Rattle.vg_dispatch.specs.Progress.{AreInRange}
+use Rattle.vg_underway.specs.Underway.{Setting, stationed}
+use Rattle.vg_underway.specs.Draws.{AreBelow, IsReady, IsEntered, CanDrawOwn}
+use Rattle.vg_underway.specs.Taking.{TakesFrames, taken_arrivals}
+use Rattle.vg_underway.specs.Hands.{CanHand}
 use Rattle.vg_dispatch.specs.Keeping.{IsKeeping}
 use Rattle.vg_dispatch.specs.Workers.{WorkerBook, account_of}
 use Rattle.vg_dispatch.specs.Standing.{IsMadeFor, IsAtWork, IsSameWorker}
-use Rattle.vg_dispatch.proofs.HandGroupLemmas.{all_mono}
-use Rattle.vg_dispatch.proofs.TakingLemmas.{none_drawn}
+use Rattle.vg_underway.proofs.HandGroupLemmas.{all_mono}
+use Rattle.vg_underway.proofs.TakingLemmas.{none_drawn}
 use Rattle.std.proofs.lemmas.List.{append-nil, length-map}
 use Rattle.std.proofs.lemmas.Bool.Decides.{nat_tests}
 use Rattle.vg_model.specs.Valid.{IsKindSet}
@@ -34,13 +35,14 @@ use Rattle.vg_frame.specs.Pending.{IsNothingPending}
 use Rattle.vg_plan.specs.Plan.{Planned, IsPlan, limit_of}
 use Rattle.vg_journeys.specs.Windows.{mark_behind}
 use Rattle.vg_nodes.specs.Sorting.{nothing_sorted}
-use Rattle.vg_dispatch.specs.Peers.{by_worker}
-use Rattle.vg_dispatch.specs.Underway.{IsSetting}
-use Rattle.vg_dispatch.specs.Works.{IsSteady, TakesAll}
-use Rattle.vg_dispatch.specs.Hands.{IsDispatched}
-use Rattle.vg_dispatch.specs.Taking.{AreTaken}
-use Rattle.vg_dispatch.proofs.DrawLemmas.{room_entered, takes_entered}
-use Rattle.vg_dispatch.proofs.RestLemmas.{IsOver, account_with, round_over}
+use Rattle.vg_underway.specs.Peers.{by_worker}
+use Rattle.vg_underway.specs.Underway.{IsSetting}
+use Rattle.vg_underway.specs.Works.{IsSteady, TakesAll}
+use Rattle.vg_journeys.specs.Turns.{Settled}
+use Rattle.vg_underway.specs.Hands.{IsDispatched}
+use Rattle.vg_underway.specs.Taking.{AreTaken}
+use Rattle.vg_underway.proofs.DrawLemmas.{room_entered, takes_entered}
+use Rattle.vg_underway.proofs.RestLemmas.{IsOver, account_with, round_over}
 use Rattle.vg_dispatch.proofs.RoundLemmas.{ready_in_round, arrivals_many, IsRound, keeping_after, work_after}
 
 -- a round takes frames only where the cache has few buffers
@@ -143,7 +145,8 @@ set_up capture run {v} {w} is made goes draws limit tried inputs cached more wan
       tried_most = omega (arith, least, inputs_is, inputs_each);
     }
 
-module _ (visit : Visit) (g : Graph) (generation number packets bytes mark own left taken limit most tried : ℕ) (options : Options) (work came : Work) (sorted : Sorted) (groups : List (List ℕ)) (queues asked new_queues : List Queue) (accepted : List (List HandoffFrame)) (slots : List ℕ) (cache filled : CacheBook)
+module _ (visit : Visit) (g : Graph) (generation number packets bytes mark own left taken limit most tried : ℕ) (options : Options) (work came : Work) (sorted : Sorted) (groups : List (List ℕ))
+    (queues asked new_queues : List Queue) (accepted : List (List HandoffFrame)) (slots : List ℕ) (cache filled : CacheBook)
     (items : List Captured) (got : Came) where
   pub ready_here : IsKeeping number options packets bytes mark own left taken work sorted groups queues accepted slots cache
       → (t : TakesFrames (stationed visit g generation (record { workers = options.workers; worker = number; slots = options.queue })) (record { packets = packets; bytes = bytes; own = own; left = left; taken = taken }) tried work asked came new_queues got)
@@ -238,21 +241,21 @@ module _ (visit : Visit) (g : Graph) (generation number packets bytes mark own l
       (taken_arrivals number t.took ++ next_draws options.workers mark many (frames_of items)) [] work mid filled mid_cache (ready_here k t u many fewer below) entered (sym (append-nil (taken_arrivals number t.took ++ next_draws options.workers mark many (frames_of items))))
 
   -- all of the round
-  pub round_here : (lossless : Bool) (plan : Planned) (capture : Capture) → IsKindSet visit → slice_get plan.graphs generation ≡ Some g → (limit ≤ limit_of plan.script capture generation) × (limit ≤ length capture.packets)
+  pub round_here : {told : List Settled → Type 0} (all : List Settled → Type 0) (lossless : Bool) (plan : Planned) (capture : Capture) → IsKindSet visit → slice_get plan.graphs generation ≡ Some g → (limit ≤ limit_of plan.script capture generation) × (limit ≤ length capture.packets)
       → ((earlier : ℕ) → suc earlier ≡ generation → limit_of plan.script capture earlier ≤ mark) → packets ≡ length capture.packets → bytes ≡ captured_bytes capture.packets → items ≡ capture.packets → asked ≡ queues
       → IsKeeping number options packets bytes mark own left taken work sorted groups queues accepted slots cache
       → (t : TakesFrames (stationed visit g generation (record { workers = options.workers; worker = number; slots = options.queue })) (record { packets = packets; bytes = bytes; own = own; left = left; taken = taken }) tried work asked came new_queues got)
       → IsSetUp options mark own left limit most tried cache filled items → (many drew_bytes : ℕ) (mid new : Work) (mid_cache after : CacheBook) (new_accepted : List (List HandoffFrame)) (new_slots : List ℕ)
       → many ≤ most → AreBelow options.workers mark limit many → drew_bytes ≡ captured_bytes (take many (own_from options.workers mark items)) → own_from options.workers (mark_behind options.workers mark many) items ≡ drop many (own_from options.workers mark items)
-      → IsEntered (stationed visit g generation (record { workers = options.workers; worker = number; slots = options.queue })) (taken_arrivals number t.took ++ next_draws options.workers mark many (frames_of items)) work filled mid mid_cache
-      → IsDispatched (stationed visit g generation (record { workers = options.workers; worker = number; slots = options.queue })) options.queue lossless mid mid_cache (by_worker number [] accepted) new after (by_worker number [] new_accepted)
-      → IsNothingPending new.pending → length new_accepted + 1 ≡ options.workers → AllByRecursion (λ n. n ≡ options.queue) new_slots
-      → IsRound visit lossless plan capture options g generation limit number mark own left taken many most got.count got.bytes drew_bytes t.took queues new_queues accepted new_accepted new_slots work new filled after
-  round_here lossless plan capture kinds there limited now packets_is bytes_is items_is asked_is k t u many drew_bytes mid new mid_cache after new_accepted new_slots fewer below drew own_after entered done none each slots_are =
+      → (entered : IsEntered (stationed visit g generation (record { workers = options.workers; worker = number; slots = options.queue })) (taken_arrivals number t.took ++ next_draws options.workers mark many (frames_of items)) work filled mid mid_cache)
+      → IsDispatched (stationed visit g generation (record { workers = options.workers; worker = number; slots = options.queue })) options.queue lossless told mid mid_cache (by_worker number [] accepted) new after (by_worker number [] new_accepted)
+      → IsNothingPending new.pending → ((settled : List Settled) → told settled → all (entered.settled ++ settled)) → length new_accepted + 1 ≡ options.workers → AllByRecursion (λ n. n ≡ options.queue) new_slots
+      → IsRound visit lossless all plan capture options g generation limit number mark own left taken many most got.count got.bytes drew_bytes t.took queues new_queues accepted new_accepted new_slots work new filled after
+  round_here all lossless plan capture kinds there limited now packets_is bytes_is items_is asked_is k t u many drew_bytes mid new mid_cache after new_accepted new_slots fewer below drew own_after entered done none tells each slots_are =
       let s : Setting = stationed visit g generation (record { workers = options.workers; worker = number; slots = options.queue }) in
-      let over : IsOver s options.queue lossless (taken_arrivals number t.took ++ next_draws options.workers mark many (frames_of items)) work filled (by_worker number [] accepted) new after (by_worker number [] new_accepted) =
+      let over : IsOver s options.queue lossless all (taken_arrivals number t.took ++ next_draws options.workers mark many (frames_of items)) work filled (by_worker number [] accepted) new after (by_worker number [] new_accepted) =
       round_over s options.queue lossless (taken_arrivals number t.took ++ next_draws options.workers mark many (frames_of items)) work mid new filled mid_cache after (by_worker number [] accepted) (by_worker number [] new_accepted)
-      (ready_here k t u many fewer below) entered done none in
+      (ready_here k t u many fewer below) entered done none tells in
       let within = t.within in let fates = t.fates in let most_bytes = t.bytes_most in let size = t.size in let least = u.tried_most in
       record {
         kinds = kinds;
@@ -273,16 +276,16 @@ module _ (visit : Visit) (g : Graph) (generation number packets bytes mark own l
         below = below;
         drew = drew ∙ ap (λ xs. captured_bytes (take many (own_from options.workers mark xs))) items_is;
         own_after = subst (λ xs. own_from options.workers (mark_behind options.workers mark many) xs ≡ drop many (own_from options.workers mark xs)) items_is own_after;
-        over = subst (λ xs. IsOver s options.queue lossless (taken_arrivals number t.took ++ next_draws options.workers mark many (frames_of xs)) work filled (by_worker number [] accepted) new after (by_worker number [] new_accepted)) items_is over;
+        over = subst (λ xs. IsOver s options.queue lossless all (taken_arrivals number t.took ++ next_draws options.workers mark many (frames_of xs)) work filled (by_worker number [] accepted) new after (by_worker number [] new_accepted)) items_is over;
         accepted_each = each;
         slots_are = slots_are;
       }
 
   -- what is kept after it
-  pub keeping_here : (lossless : Bool) (plan : Planned) (capture : Capture) → IsPlan plan → packets ≡ length capture.packets → bytes ≡ captured_bytes capture.packets → items ≡ capture.packets
+  pub keeping_here : {told : List Settled → Type 0} (lossless : Bool) (plan : Planned) (capture : Capture) → IsPlan plan → packets ≡ length capture.packets → bytes ≡ captured_bytes capture.packets → items ≡ capture.packets
       → IsKeeping number options packets bytes mark own left taken work sorted groups queues accepted slots cache → IsSetUp options mark own left limit most tried cache filled items
       → (took : List (List HandoffFrame)) (many drew_bytes : ℕ) (new : Work) (after last : CacheBook) (new_accepted : List (List HandoffFrame)) (new_slots : List ℕ) (new_sorted : Sorted) (new_groups : List (List ℕ))
-      → IsRound visit lossless plan capture options g generation limit number mark own left taken many most got.count got.bytes drew_bytes took queues new_queues accepted new_accepted new_slots work new filled after
+      → IsRound visit lossless told plan capture options g generation limit number mark own left taken many most got.count got.bytes drew_bytes took queues new_queues accepted new_accepted new_slots work new filled after
       → last.allocated ≡ after.allocated → last.freed ≡ after.freed → new_sorted ≡ nothing_sorted → new_groups ≡ replicate options.workers []
       → IsKeeping number options packets bytes (mark_behind options.workers mark many) (own - many) (left - drew_bytes) (taken + got.count) new new_sorted new_groups new_queues new_accepted new_slots last
   keeping_here lossless plan capture planned packets_is bytes_is items_is k u took many drew_bytes new after last new_accepted new_slots new_sorted new_groups r allocated freed no_sorted no_groups =
@@ -328,9 +331,9 @@ account_at number {m} {m'} {t} {t'} {p} {p'} w c c' em et ep ea ef =
     ∙ ap (λ x. account_with number m t p w (record c' { allocated = x })) ea ∙ ap (λ x. account_with number m t p w (record c' { allocated = c.allocated; freed = x })) ef
 
 -- the worker stands for the run
-pub work_here : (visit : Visit) (lossless : Bool) (plan : Planned) (capture : Capture) (run : Options) {v w new_book : WorkerBook} → v ≡ w → IsAtWork visit lossless plan capture run w
+pub work_here : {told : List Settled → Type 0} (visit : Visit) (lossless : Bool) (plan : Planned) (capture : Capture) (run : Options) {v w new_book : WorkerBook} → v ≡ w → IsAtWork visit lossless plan capture run w
     → (g : Graph) (generation limit taken many most came_count came_bytes drew_bytes : ℕ) (took : List (List HandoffFrame)) (queues new_queues : List Queue) (accepted new_accepted : List (List HandoffFrame)) (slots : List ℕ) (work new : Work) (filled after : CacheBook)
-    → IsRound visit lossless plan capture v.options g generation limit v.number v.mark v.own v.left taken many most came_count came_bytes drew_bytes took queues new_queues accepted new_accepted slots work new filled after
+    → IsRound visit lossless told plan capture v.options g generation limit v.number v.mark v.own v.left taken many most came_count came_bytes drew_bytes took queues new_queues accepted new_accepted slots work new filled after
     → v.put ≡ by_worker v.number [] accepted → v.log ≡ work.fates.items
     → account_of v ≡ account_with v.number v.mark (by_worker v.number [] (map (λ (q : Queue). q.taken) queues)) (by_worker v.number [] accepted) work filled
     → account_of new_book ≡ account_with v.number (mark_behind v.options.workers v.mark many) (by_worker v.number [] (map (λ (q : Queue). q.taken) new_queues)) (by_worker v.number [] new_accepted) new after

@@ -53,14 +53,12 @@ module _ {G : Ghosts WorkerParcel Windows} (fits_is : (p : WorkerParcel) (book :
           arrivals = h.arrivals;
           trail = h.trail ∙ ap (λ n. found arrival_word h.arrivals ∷ found generation_word n ∷ found request_word (2 * h.stamp) ∷ trail_of before.seat) (generation_is running.parcel);
           view = h.view ∙ ap (λ n. record v { phase = phase.Running; has = true; read = 2 * h.stamp; stamp = h.stamp; generation = n; steps = v.steps + 3 }) (generation_is running.parcel);
-          opening_stamp = h.opening_stamp;
-          opening_generation = λ none. sym (generation_is running.parcel) ∙ h.opening_generation none;
           fits = fits_is running.parcel v.book h.fits;
           next = sym (mark_is running.parcel) ∙ h.mark;
         };
       }
   polls_look before (check.Parked parked) h =
-      record { same = h.seat.0; id = h.seat.1; by = record { request = h.request; odd = h.odd; opening = h.opening; trail = h.trail; view = h.view } }
+      record { same = h.seat.0; id = h.seat.1; by = record { request = h.request; odd = h.odd; trail = h.trail; view = h.view } }
 
 -- the worker that looked sits as it did
 looked_by : (book : Windows) (number mark : ℕ) (before after : WorkerSeat) (p q : Option WorkerParcel) → KeepsParcel book mark before p → before.view.number ≡ number → before.view.book ≡ book → LooksBy before p after q

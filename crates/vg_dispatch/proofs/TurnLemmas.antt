@@ -211,6 +211,7 @@ round_same run lossless g generation limit o n s t i j a b r =
       logged = r.logged;
       log = r.log;
       dropped = r.dropped;
+      refused = r.refused;
     }
 
 pub round_seen : {v w x y : WorkerBook} (run : Run) (lossless : Bool) (g : Graph) (generation limit : ℕ) (s t : Option WorkerSeat) (i j : ℕ) (a b : Stop) → v ≡ w → x ≡ y → IsRoundOf run lossless g generation limit (record v { seat = s; turns = i; stop = a }) y
@@ -235,7 +236,8 @@ pub turn_count : (turns added count : ℕ) → added ≡ min (turns + 1) 1844674
 turn_count turns added count added_is count_is = omega (arith, added_is, count_is)
 
 -- turns
-pub turns_stopped : (run : Run) (lossless : Bool) {v w : WorkerBook} → v ≡ w → w.stop ≡ stops.No → (before looked : WorkerSeat) (parcel : WorkerParcel) → w.seat ≡ Some before → Looks before looked → looked.parcel ≡ Some parcel → parcel.stop ≢ stops.No → (count : ℕ) → count ≡ min (v.turns + 1) (2 ^ 62)
+pub turns_stopped : (run : Run) (lossless : Bool) {v w : WorkerBook} → v ≡ w → w.stop ≡ stops.No → (before looked : WorkerSeat) (parcel : WorkerParcel) → w.seat ≡ Some before → Looks before looked
+    → looked.parcel ≡ Some parcel → parcel.stop ≢ stops.No → (count : ℕ) → count ≡ min (v.turns + 1) (2 ^ 62)
     → Turns w.stop run lossless turns.Stopped w (record v { seat = Some looked; turns = count; stop = parcel.stop })
 turns_stopped run lossless {v} {w} is goes before looked parcel sat looks has stop count more =
     subst (λ s. Turns s run lossless turns.Stopped w (record v { seat = Some looked; turns = count; stop = parcel.stop })) (sym goes) (record {

@@ -6,10 +6,10 @@ use Rattle.vg_nodes.specs.Sorting.{nothing_sorted}
 use Rattle.vg_model.specs.PoolBook.{CacheBook}
 use Rattle.vg_journeys.specs.Accounts.{HandoffFrame}
 use Rattle.vg_dispatch.specs.declared.options.Options.{Options}
-use Rattle.vg_dispatch.specs.declared.underway.Work.{Work}
+use Rattle.vg_underway.specs.declared.underway.Work.{Work}
 use Rattle.vg_dispatch.specs.Progress.{AreInRange}
-use Rattle.vg_dispatch.specs.Queues.{Queue, packets_in}
-use Rattle.vg_dispatch.specs.Rest.{IsAtRest}
+use Rattle.vg_underway.specs.Queues.{Queue, packets_in}
+use Rattle.vg_underway.specs.Rest.{IsAtRest}
 
 -- nothing is under way in it; it has room for all that may come; and no count of its own is greater than what came to it
 pub record IsKeeping (number : ℕ) (options : Options) (packets bytes mark own left taken : ℕ) (work : Work) (sorted : Sorted) (groups : List (List ℕ)) (queues : List Queue) (accepted : List (List HandoffFrame)) (slots : List ℕ) (cache : CacheBook) : Type 0 where

@@ -4,23 +4,16 @@ use Rattle.std.specs.List.{sum_by, AllByRecursion}
 use Rattle.vg_model.specs.declared.fates.Fate.{Fate}
 use Rattle.vg_model.specs.Graph.{Graph}
 use Rattle.vg_pool.specs.Moves.{most_kept, wanted}
-use Rattle.vg_hands.specs.Handed.{IsHandFrame}
-use Rattle.vg_journeys.specs.Trips.{Run, Trip}
+use Rattle.vg_journeys.specs.Trips.{Run, Trip, contents_after}
 use Rattle.vg_journeys.specs.Accounts.{HandoffFrame, Adds, frames_with, below as workers_below}
 use Rattle.vg_journeys.specs.Counts.{IsCountIn}
 use Rattle.vg_journeys.specs.Windows.{mark_behind}
 use Rattle.vg_dispatch.specs.declared.parcels.WorkerParcel.{WorkerParcel}
-use Rattle.vg_dispatch.specs.SentEntries.{sent_size}
-use Rattle.vg_dispatch.specs.Draws.{IsHandoff}
-use Rattle.vg_dispatch.specs.Queues.{Tries, frame_bytes, packets_in, bytes_in}
-use Rattle.vg_dispatch.specs.Outlets.{Outlet, outlet_with, most_in_round, IsTicked, Push, ArePushes, if_congested, dropped_in_all}
+use Rattle.vg_underway.specs.SentEntries.{sent_size}
+use Rattle.vg_underway.specs.Taking.{MayTake}
+use Rattle.vg_underway.specs.Queues.{Tries, frame_bytes, packets_in, bytes_in}
+use Rattle.vg_underway.specs.Outlets.{Outlet, outlet_with, most_in_round, IsTicked, Push, ArePushes, if_congested, refused_at, dropped_in, dropped_in_all}
 use Rattle.vg_dispatch.specs.Workers.{WorkerSeat, WorkerBook, IsOther, intake_from, account_of}
-
--- a frame that may be taken under this graph and this generation: it isn't of a later one, and a handoff node of the graph put it
-pub record MayTake (g : Graph) (generation : ℕ) (frame : HandoffFrame) : Type 0 where
-  pub kept : IsHandFrame frame
-  pub earlier : frame.generation ≤ generation
-  pub node : IsHandoff g frame.node
 
 -- of the frames that were taken of the workers below one
 abbrev pub before : (List HandoffFrame → ℕ) → (took : List (List HandoffFrame)) → (from : ℕ) → ℕ
@@ -46,12 +39,17 @@ IsOpen w handoffs = (w.cache.len ≤ most_kept) × ((to : ℕ) → IsOther w to 
 abbrev pub MayDraw : WorkerBook → (handoffs : ℕ → Outlet) → Type 0
 MayDraw w handoffs = IsOpen w handoffs × ((to : ℕ) → IsOther w to → (handoffs to).closed ≡ false)
 
+-- what is logged of the packet of a trip that ends at the queue to this worker, which refused it, by any way of counting
+abbrev pub trip_refused_at : (count : Fate → ℕ) (to : ℕ) → Trip → ℕ
+trip_refused_at count to trip = refused_at count to (contents_after trip) trip.way.outcome trip.refused
+
 -- A round under a graph and its generation, as far as this limit.
 pub record IsRoundOf (run : Run) (lossless : Bool) (g : Graph) (generation limit : ℕ) (old new : WorkerBook) : Type 0 where
   -- first its handoffs tick
   pub ticked : ℕ → Outlet
-  pub ticks : (to : ℕ) → IsTicked lossless (outlet_with to old.outlets) (ticked to)
-  -- after that, unless its gate is closed, it looks for a frame of every other worker, the lowest number first
+  pub ticks : (to : ℕ) → IsTicked old.options.queue lossless (frames_with to old.put) (outlet_with to old.outlets) (ticked to)
+  -- after that it looks for a frame of every other worker, the lowest number first, where every handoff has room for a round and the cache
+  -- has no more buffers than it may keep
   pub took : List (List HandoffFrame)
   pub taken : (from : ℕ) → frames_with from new.taken ≡ frames_with from old.taken ++ frames_with from took
   pub one : (from : ℕ) → length (frames_with from took) ≤ 1
@@ -81,10 +79,12 @@ pub record IsRoundOf (run : Run) (lossless : Bool) (g : Graph) (generation limit
   pub made : (to : ℕ) → ArePushes old.options.queue lossless (frames_with to old.put) (ticked to) (pushes to) (frames_with to new.put) (outlet_with to new.outlets)
   pub pushed : ℕ → List HandoffFrame
   pub put : (to : ℕ) → frames_with to new.put ≡ frames_with to old.put ++ pushed to
-  -- the fates with a count are those of the packets of frames that came back, each with the count that came back with its frame
+  -- the fates with a count are those of the packets of frames that came back, each with the count that came back with its frame; and the
+  -- packets whose ways end at the queue to a worker, which refused them, are just those of the frames that came back from it
   pub logged : List Fate
   pub log : new.log ≡ old.log ++ logged
   pub dropped : (count : Fate → ℕ) → sum_by (if_congested count) logged ≡ dropped_in_all count old.options.workers pushes
+  pub refused : (to : ℕ) (count : Fate → ℕ) → sum_by (trip_refused_at count to) trips ≡ dropped_in count (pushes to)
 
 -- a round under the parcel of a seat, up to this limit
 abbrev pub RoundsWith : Run → (lossless : Bool) → Option WorkerParcel → (limit : ℕ) → (old new : WorkerBook) → Type 0

@@ -16,7 +16,8 @@ use Rattle.vg_dispatch.specs.declared.parcels.WorkerParcel.{WorkerParcel}
 use Rattle.vg_dispatch.specs.declared.parcels.Stop.{Stop}
 use Rattle.vg_dispatch.specs.declared.parcels.Stop.TheVariants as stops
 use Rattle.vg_dispatch.specs.Parcels.{Fits}
-use Rattle.vg_dispatch.specs.Progress.{AreInRange, captured_bytes, own_from, frames_of}
+use Rattle.vg_underway.specs.OwnPackets.{captured_bytes, own_from, frames_of}
+use Rattle.vg_dispatch.specs.Progress.{AreInRange}
 use Rattle.vg_dispatch.specs.Workers.{Windows, WorkerSeat, WorkerBook, account_of}
 
 -- what is run

@@ -39,9 +39,6 @@ pub record HasLeft (v n : WorkerSeat) (parcel : WorkerParcel) : Type 0 where
   pub arrivals : ℕ
   pub trail : n.trail ≡ found arrival_word arrivals ∷ found generation_word parcel.fork.generation ∷ found request_word (2 * stamp) ∷ v.trail
   pub view : n.view ≡ record (v.view) { phase = phase.Running; has = true; read = 2 * stamp; stamp = stamp; generation = parcel.fork.generation; steps = v.view.steps + 3 }
-  -- the first word of all that a worker reads is 0, and where it is 0, before the first release, the parcel is of generation 0
-  pub opening_stamp : v.view.steps ≡ 0 → stamp ≡ 0
-  pub opening_generation : stamp ≡ 0 → parcel.fork.generation ≡ 0
   pub fits : Fits parcel v.view.book
   pub next : parcel.next ≡ v.view.mark
 
@@ -49,7 +46,6 @@ pub record HasLeft (v n : WorkerSeat) (parcel : WorkerParcel) : Type 0 where
 pub record StaysParked (v n : WorkerSeat) : Type 0 where
   pub request : ℕ
   pub odd : request % 2 ≡ 1
-  pub opening : v.view.steps ≡ 0 → request ≡ 0
   pub trail : n.trail ≡ found request_word request ∷ v.trail
   pub view : n.view ≡ record (v.view) { read = request; steps = v.view.steps + 1 }
 

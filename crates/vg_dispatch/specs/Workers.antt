@@ -19,9 +19,9 @@ use Rattle.vg_journeys.specs.Accounts.{Account, HandoffFrame, frames_with}
 use Rattle.vg_dispatch.specs.declared.options.Options.{Options}
 use Rattle.vg_dispatch.specs.declared.parcels.WorkerParcel.{WorkerParcel}
 use Rattle.vg_dispatch.specs.declared.parcels.Stop.{Stop}
-use Rattle.vg_dispatch.specs.Peers.{place_among}
-use Rattle.vg_dispatch.specs.Queues.{Intake}
-use Rattle.vg_dispatch.specs.Outlets.{Outlet}
+use Rattle.vg_underway.specs.Peers.{place_among}
+use Rattle.vg_underway.specs.Queues.{Intake}
+use Rattle.vg_underway.specs.Outlets.{Outlet}
 
 -- what all parcels of a run's barrier are generations of: graphs with their limits
 abbrev pub Windows : Type 0

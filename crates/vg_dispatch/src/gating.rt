@@ -3,7 +3,7 @@ ghost use Rattle.std.specs.Prelude.{ℕ, ◌≡◌, ◌≤◌, ◌↔◌, ◌+�
 ghost use Rattle.std.specs.Bool.{MatchBool, IsTrue};
 ghost use Rattle.std.specs.List.{AllByRecursion};
 ghost use Rattle.vg_pool.specs.Moves.{most_kept, wanted};
-ghost use Rattle.vg_dispatch.specs.Outlets.{outlet_of, AreTicked};
+ghost use Rattle.vg_underway.specs.Outlets.{outlet_of, AreTicked};
 
 use std::sync::Wait;
 use std::sync::ledger::Ledger;
@@ -15,7 +15,7 @@ pub(crate) fn tick_all<H: Handoff<HandFrame>>(outputs: &mut [H])
     ensures accepted { map H.accepted outputs.new ≡ map H.accepted outputs.old }
     ensures rings { map H.ring outputs.new ≡ map H.ring outputs.old }
     ensures slots { map H.slots outputs.new ≡ map H.slots outputs.old }
-    ensures ticked { (most : ℕ) → AreTicked H.LOSSLESS (map (outlet_of H.end H.free_room H.closes most) outputs.old) (map (outlet_of H.end H.free_room H.closes most) outputs.new) }
+    ensures ticked { (most : ℕ) → AreTicked H.slots H.LOSSLESS H.accepted (outlet_of H.end H.refusals H.waiting H.free_room H.closes most) outputs.old outputs.new }
 {
     'outputs: for output in outputs.iter_mut() {
         output.tick();

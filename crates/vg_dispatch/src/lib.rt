@@ -5,35 +5,28 @@
 //! worker as it dispatches a frame is one frame on the queue to it. What became of a packet is logged, counted by node, error and interface,
 //! and, where it was transmitted, its bytes are kept in a [`SentList`]. The nodes that the first packets visit are noted, as many as
 //! the options' trace says. Between two rounds no packet is on its way in a worker.
+//! What it has under way stands in `vg_underway`; here is when it takes, draws and stops.
 //!
 //! What calls cost: [`Worker::new`] takes all memory. A round copies a packet's bytes into a buffer as it is drawn, and out of it
 //! where it is transmitted; between nodes only its index moves, and a packet that is handed over is its buffer moved. A node's
 //! visits are counted once a frame, and noted packet by packet only where packets are traced.
 #![tactic(auto)]
 
-mod counting;
 mod gating;
-mod incoming;
 pub mod inputs;
+pub mod laws;
 pub mod links;
-mod making;
 pub mod options;
 pub mod parcels;
-mod peers;
 mod seats;
-pub mod sent;
-pub mod stations;
-mod taking;
 pub mod turns;
-mod underway;
 pub mod workers;
 
 pub use inputs::Input;
 pub use links::{Links, Refused, WorkerLinks};
 pub use options::Options;
 pub use parcels::{Stop, WorkerParcel};
-pub use sent::SentList;
-pub use stations::Station;
 pub use turns::Turn;
 pub use vg_fates::FateList;
+pub use vg_underway::{SentList, Station, sent, stations};
 pub use workers::{Worker, WorkerEnd};

@@ -8,29 +8,21 @@ ghost use Rattle.vg_barrier.specs.Answers.{MayGive};
 ghost use Rattle.vg_journeys.specs.Accounts.{frames_with};
 ghost use Rattle.vg_plan.specs.Plan.{windows, limit_of};
 ghost use Rattle.vg_dispatch.specs.Progress.{AreInRange};
-ghost use Rattle.vg_dispatch.specs.Peers.{by_worker};
-ghost use Rattle.vg_dispatch.specs.Queues.{Queue};
+ghost use Rattle.vg_underway.specs.Peers.{by_worker};
+ghost use Rattle.vg_underway.specs.Queues.{Queue};
 ghost use Rattle.vg_dispatch.specs.Workers.{IsIdle, running_seat};
 ghost use Rattle.vg_dispatch.specs.Standing.{run_of, IsWorkerOf, IsAtWork, IsSameWorker, barrier_of, barrier_id};
 ghost use Rattle.vg_dispatch.specs.Turned.{Turns};
 ghost use Rattle.vg_dispatch.specs.Rounds.{RoundsAt, IsRoundOf};
 ghost use Rattle.vg_dispatch.specs.declared.parcels.Stop.TheVariants as stops;
 
-use crate::counting::Counting;
 use crate::gating::{may_draw, may_go, refill_for, tick_all, where_goes};
-use crate::incoming::Incoming;
 use crate::inputs::Input;
 use crate::links::{Refused, WorkerLinks};
-use crate::making::{Rooms, counting_of, own_of, queues_of, total_bytes};
 use crate::options::Options;
 use crate::parcels::{Stop, WorkerParcel};
-use crate::peers::place_of;
 use crate::seats::looked;
-use crate::sent::SentList;
-use crate::stations::Station;
-use crate::taking::Bounds;
 use crate::turns::Turn;
-use crate::underway::Work;
 use std::alloc::Global;
 use std::marker::Model;
 use std::sync::Wait;
@@ -46,6 +38,10 @@ use vg_nodes::{KindSet, Sorted};
 use vg_outside::Gate;
 use vg_pool::{Cache, LockedPool, PoolLedger};
 use vg_ring::{RingRx, RingTx};
+use vg_underway::{
+    Bounds, Counting, Incoming, Rooms, SentList, Station, Work, counting_of, own_of, place_of,
+    queues_of, total_bytes,
+};
 
 // Where a worker's count of turns stands still.
 const MOST_TURNS: u64 = 1 << 62;
@@ -103,10 +99,10 @@ pub struct WorkerEnd<T: Ledger, L: Ledger> {
 
 impl<K: KindSet, H: Handoff<HandFrame>, T: PoolLedger, L: Ledger> Model for Worker<K, H, T, L> {
     ghost use Rattle.std.specs.Prelude.{◌≡◌, ◌≤◌, [], length, map, vec_capacity};
-    ghost use Rattle.vg_dispatch.specs.SentEntries.{sent_by};
+    ghost use Rattle.vg_underway.specs.SentEntries.{sent_by};
     ghost use Rattle.vg_dispatch.specs.Keeping.{IsKeeping};
-    ghost use Rattle.vg_dispatch.specs.Peers.{by_worker};
-    ghost use Rattle.vg_dispatch.specs.Outlets.{outlet_of, no_outlet, most_in_round};
+    ghost use Rattle.vg_underway.specs.Peers.{by_worker};
+    ghost use Rattle.vg_underway.specs.Outlets.{outlet_of, no_outlet, most_in_round};
     ghost use Rattle.vg_dispatch.specs.Workers.{WorkerBook, seat_in};
 
     ghost Value = { WorkerBook };
@@ -131,7 +127,7 @@ impl<K: KindSet, H: Handoff<HandFrame>, T: PoolLedger, L: Ledger> Model for Work
       outputs = map (λ o. H.ring o.handoff) w.outputs.items;
       rooms = map (λ o. H.free_room o.handoff) w.outputs.items;
       held = map (λ o. H.waiting o.handoff) w.outputs.items;
-      outlets = by_worker w.number no_outlet (map (λ o. outlet_of H.end H.free_room H.closes (most_in_round w.options.workers) o.handoff) w.outputs.items);
+      outlets = by_worker w.number no_outlet (map (λ o. outlet_of H.end H.refusals H.waiting H.free_room H.closes (most_in_round w.options.workers) o.handoff) w.outputs.items);
       looks = by_worker w.number [] (map (λ i. i.trail) w.inputs.items);
       seat = seat_in w.seat;
       turns = w.turns;

@@ -20,16 +20,16 @@ use Rattle.vg_journeys.proofs.JoinLemmas.{all_below}
 use Rattle.vg_journeys.proofs.BufferLemmas.{nothing_left}
 use Rattle.vg_dispatch.specs.declared.options.Options.{Options}
 use Rattle.vg_dispatch.specs.declared.parcels.Stop.TheVariants as stops
-use Rattle.vg_dispatch.specs.Peers.{by_worker}
-use Rattle.vg_dispatch.proofs.PeerLemmas.{peers_own}
+use Rattle.vg_underway.specs.Peers.{by_worker}
+use Rattle.vg_underway.proofs.PeerLemmas.{peers_own}
 use Rattle.vg_dispatch.specs.Workers.{WorkerBook, account_of}
 use Rattle.vg_dispatch.specs.Standing.{run_of, traced_of}
-use Rattle.vg_engine.specs.Places.{AllAt, AllWith, others_from, pairs}
-use Rattle.vg_engine.specs.Crews.{IsMember, IsCrew, HaveEnded, AreDone, account_at}
-use Rattle.vg_engine.specs.Closing.{Queues, AreOutputs, AreInputs, AreEnds, IsClosed}
-use Rattle.vg_engine.specs.Ended.{HasInputs, HasOutputs}
-use Rattle.vg_engine.proofs.PlaceLemmas.{first_get, get_some, zip_at, with_length, with_then, with_first, entries_are, each_pair, pair_in, same_or_other}
-use Rattle.vg_engine.proofs.CrewLemmas.{account_is}
+use Rattle.vg_workers.specs.Places.{AllAt, AllWith, others_from, pairs}
+use Rattle.vg_workers.specs.Crews.{IsMember, IsCrew, HaveEnded, AreDone, account_at}
+use Rattle.vg_workers.specs.Closing.{Queues, AreOutputs, AreInputs, AreEnds, IsClosed}
+use Rattle.vg_workers.specs.Ended.{HasInputs, HasOutputs}
+use Rattle.vg_workers.proofs.PlaceLemmas.{first_get, get_some, zip_at, with_length, with_then, with_first, entries_are, each_pair, pair_in, same_or_other}
+use Rattle.vg_workers.proofs.CrewLemmas.{account_is}
 
 -- what is known of the queues between these workers
 abbrev pub queues_of : (ring : ℕ → ℕ → TableId) → List WorkerBook → Queues

@@ -3,7 +3,7 @@ use Rattle.std.proofs.Common.{◌≡◌, ℕ, zero, suc, ◌+◌, ◌*◌, ◌<�
 use Rattle.std.specs.Prelude.{Bool, true, Some, None, slice_get, slice_index, All, flat_map, ◌==◌}
 use Rattle.std.specs.List.{AllByRecursion, sum_by, count_by, cons_option}
 use Rattle.std.specs.List.Sorted.{IsPermutation, IsNonDecreasing, IsNonDecreasingBy}
-use Rattle.std.proofs.lemmas.List.{length-map, length-replicate, get_or-map, get_or_past, take_all}
+use Rattle.std.proofs.lemmas.List.{length-map, map-append, length-replicate, get_or-map, get_or_past, take_all}
 use Rattle.std.proofs.lemmas.Bool.{cases_lt}
 use Rattle.std.proofs.lemmas.Option.{none-some}
 use Rattle.std.proofs.lemmas.List.Sorted.{All-permutation}
@@ -22,18 +22,20 @@ use Rattle.vg_model.specs.Journey.{Journey, end_of, sent, sent_as, longest_packe
 use Rattle.vg_model.specs.Count.{trace, is_drop, is_sent_on}
 use Rattle.vg_capture.specs.declared.captures.Capture.{Capture}
 use Rattle.vg_plan.specs.Plan.{Planned, IsPlan}
+use Rattle.vg_plan.proofs.GrowthLemmas.{grows_to_last}
 use Rattle.vg_ring.specs.declared.ends.RingTx.{RingTx}
 use Rattle.vg_ring.specs.declared.ends.RingRx.{RingRx}
 use Rattle.vg_ring.specs.declared.rest.Rest.{Rest}
 use Rattle.vg_barrier.specs.Seats.{main_view}
 use Rattle.vg_counters.specs.Tally.{Tally, IsSameSize, AreOneSize, HasRoom, IsTotal, IsWhole, count_of_errors, nothing_counted, drops_at}
 use Rattle.vg_counters.specs.Notes.{Notes, AreOneLength, IsMerged}
-use Rattle.vg_pool.specs.Settlement.{most_told, settlement_of}
+use Rattle.vg_pool.specs.declared.caches.CacheCounts.{CacheCounts}
+use Rattle.vg_pool.specs.Settlement.{most_told, counts_of, settlement_of}
 use Rattle.vg_journeys.specs.Trips.{Run, Taken, number_of}
 use Rattle.vg_journeys.specs.Runs.{AllGrow}
 use Rattle.vg_journeys.specs.Ends.{IsShort}
 use Rattle.vg_journeys.specs.Accounts.{HandoffFrame, frames_with, arrivals_in, frame_arrivals, below}
-use Rattle.vg_journeys.specs.Kept.{AreKept}
+use Rattle.vg_journeys.specs.Kept.{AreKept, own_packets}
 use Rattle.vg_journeys.specs.Outcomes as whole
 use Rattle.vg_journeys.proofs.KeptLemmas.{kept_in_the_end, noted_length}
 use Rattle.vg_journeys.proofs.OutcomeLemmas.{outcome_is, outcome_js}
@@ -41,14 +43,13 @@ use Rattle.vg_dispatch.specs.declared.options.Options.{Options}
 use Rattle.vg_dispatch.specs.Workers.{WorkerBook}
 use Rattle.vg_dispatch.specs.Standing.{run_of, traced_of, NoneCongested}
 use Rattle.vg_engine.specs.declared.runs.Outcome as code
-use Rattle.vg_engine.specs.Places.{AllWith, pairs}
-use Rattle.vg_engine.specs.Crews.{IsMember, IsCrew, HaveEnded, account_at}
-use Rattle.vg_engine.specs.Ended.{HasInputs, HasOutputs}
-use Rattle.vg_engine.specs.Turns.{IsLastGraph}
-use Rattle.vg_engine.specs.Outcomes.{AreWholeCounts, IsRestOf, IsOutcome, numbers_in, all_back}
-use Rattle.vg_engine.proofs.PlaceLemmas.{first_get, get_some, all_both, each_pair, with_then}
-use Rattle.vg_engine.proofs.CrewLemmas.{account_is}
-use Rattle.vg_engine.proofs.GrowthLemmas.{grows_to_last}
+use Rattle.vg_workers.specs.Places.{AllWith, pairs}
+use Rattle.vg_workers.specs.Crews.{IsMember, IsCrew, HaveEnded, account_at}
+use Rattle.vg_workers.specs.Ended.{HasInputs, HasOutputs}
+use Rattle.vg_threads.specs.Turns.{IsLastGraph}
+use Rattle.vg_engine.specs.Outcomes.{AreWholeCounts, IsRestOf, IsOutcome, numbers_in, counts_on, all_back}
+use Rattle.vg_workers.proofs.PlaceLemmas.{first_get, get_some, all_both, each_pair, with_then}
+use Rattle.vg_workers.proofs.CrewLemmas.{account_is}
 use Rattle.vg_engine.proofs.EndLemmas.{IsEmptied, queues_of, moment_is, over_is, by_number, sum_by_number}
 
 sum_map : {X Y : Type 0} (f : Y → ℕ) (h : X → Y) (xs : List X) → sum_by f (map h xs) ≡ sum_by (λ x. f (h x)) xs
@@ -89,6 +90,16 @@ all_map : {X Y : Type 0} (P : Y → Type 0) (f : X → Y) (xs : List X) → ((k 
 all_map P f [] each k d h = absurd (omega (arith, h))
 all_map P f (x ∷ xs) each zero d h = each 0 x refl
 all_map P f (x ∷ xs) each (suc k) d h = all_map P f xs (λ i y e. each (suc i) y e) k d (omega (arith, h))
+
+map_twice : {X Y Z : Type 0} (f : Y → Z) (h : X → Y) (xs : List X) → map f (map h xs) ≡ map (λ x. f (h x)) xs
+map_twice f h [] = refl
+map_twice f h (x ∷ xs) = ap (λ ys. f (h x) ∷ ys) (map_twice f h xs)
+
+map_below : {Y : Type 0} (f h : ℕ → Y) (n : ℕ) → ((k : ℕ) → k < n → f k ≡ h k) → map f (below n) ≡ map h (below n)
+map_below f h zero each = refl
+map_below f h (suc n) each =
+    map-append f (below n) (n ∷ []) ∙ ap (λ ys. ys ++ f n ∷ []) (map_below f h n (λ k low. each k (omega (arith, low))))
+    ∙ ap (λ y. map h (below n) ++ y ∷ []) (each n (omega arith)) ∙ sym (map-append h (below n) (n ∷ []))
 
 -- a fact of each, as a list and by places
 to_all : {X : Type 0} (P : X → Type 0) (xs : List X) → AllByRecursion P xs → All P xs
@@ -289,10 +300,11 @@ module _ (visit : Visit) (lossless : Bool) (plan : Planned) (capture : Capture) 
           let two = sizes 0 v.counts (omega arith) in
           record { nodes = one.nodes ∙ two.nodes; interfaces = one.interfaces ∙ two.interfaces }
 
-  -- a buffer was given out for each packet, and all are back
+  -- a buffer was given out for each packet, and all are back, cache by cache
   pub record AreBack (caches : List CacheBook) : Type 0 where
     pub freed : sum_by (λ (c : CacheBook). c.freed) caches ≡ sum_by (λ (c : CacheBook). c.allocated) caches
     pub allocated : sum_by (λ (c : CacheBook). c.allocated) caches ≡ length kept.js
+    pub each : map counts_of caches ≡ map (counts_on options.workers kept.js) (below options.workers)
 
   pub buffers_are : (caches : List CacheBook) → caches ≡ map (λ (w : WorkerBook). w.cache) ws → AreBack caches
   buffers_are caches is =
@@ -302,16 +314,24 @@ module _ (visit : Visit) (lossless : Bool) (plan : Planned) (capture : Capture) 
       let allocated : sum_by (λ (c : CacheBook). c.allocated) caches ≡ length (run_of visit plan capture options).packets =
       ap (sum_by (λ (c : CacheBook). c.allocated)) is ∙ sum_map (λ (c : CacheBook). c.allocated) (λ (w : WorkerBook). w.cache) ws ∙ sum_by_number (λ a. a.allocated) ws
       ∙ ap (λ n. sum_by (λ k. (account_at ws k).allocated) (below n)) crew.count ∙ kept.allocated in
-      record { freed = freed ∙ sym allocated; allocated = allocated ∙ sym kept.as_many }
+      let counts : ℕ → ℕ → CacheCounts = λ allocated freed. record { allocated = allocated; freed = freed } in
+      let each : map counts_of caches ≡ map (counts_on options.workers kept.js) (below options.workers) =
+      ap (map counts_of) is ∙ map_twice counts_of (λ (w : WorkerBook). w.cache) ws ∙ by_number (λ a. counts a.allocated a.freed) ws
+      ∙ ap (λ n. map (λ k. counts (account_at ws k).allocated (account_at ws k).freed) (below n)) crew.count
+      ∙ map_below (λ k. counts (account_at ws k).allocated (account_at ws k).freed) (counts_on options.workers kept.js) options.workers
+      (λ k low. ap (λ n. counts n (account_at ws k).freed) (kept.allocated_by k low ∙ ap (own_packets options.workers k) (sym kept.as_many))
+      ∙ ap (counts (own_packets options.workers k (length kept.js))) (kept.freed_by k low)) in
+      record { freed = freed ∙ sym allocated; allocated = allocated ∙ sym kept.as_many; each = each }
 
   -- the settlement of their pool
-  pub settled_is : (caches : List CacheBook) (len : ℕ) → AreBack caches → len ≡ options.buffers → settlement_of options.buffers len caches ≡ all_back options.buffers (length kept.js)
+  pub settled_is : (caches : List CacheBook) (len : ℕ) → AreBack caches → len ≡ options.buffers → settlement_of options.buffers len caches ≡ all_back options.buffers options.workers kept.js
   settled_is caches len back all =
       let packets = kept.as_many in
       let same_packets : length (run_of visit plan capture options).packets ≡ length capture.packets = length-map capture.packets (λ captured. captured.bytes) in
       let allocated = back.allocated in
       let told : min (sum_by (λ (c : CacheBook). c.allocated) caches) most_told ≡ length kept.js = omega (arith, allocated, packets, same_packets, few) in
-      ap (λ n. settlement_of options.buffers n caches) all ∙ ap (λ n. record { len = options.buffers; total = options.buffers; allocated = n }) told
+      ap (λ n. settlement_of options.buffers n caches) all ∙ ap (λ n. record { len = options.buffers; total = options.buffers; allocated = n; caches = map counts_of caches }) told
+      ∙ ap (λ cs. record { len = options.buffers; total = options.buffers; allocated = length kept.js; caches = cs }) back.each
 
   -- what was gathered is what the journeys say
   gathered_is : (fates : List Fate) (sent : List (ℕ × List ℕ)) (counts : Tally) (traces : List (List ℕ))
@@ -357,7 +377,7 @@ module _ (visit : Visit) (lossless : Bool) (plan : Planned) (capture : Capture) 
       → IsPermutation (flat_map (λ (log : List Fate). log) (map (λ (w : WorkerBook). w.log) ws)) outcome.fates → IsNonDecreasingBy (λ (f : Fate). f.number) outcome.fates
       → IsPermutation (flat_map (λ (list : List (ℕ × List ℕ)). list) (map (λ (w : WorkerBook). w.sent) ws)) outcome.sent → IsNonDecreasing (map (λ (s : ℕ × List ℕ). s.0) outcome.sent)
       → IsTotal (map (λ (w : WorkerBook). w.counts) ws) outcome.counts → IsMerged (map (λ (w : WorkerBook). w.trace) ws) outcome.trace
-      → outcome.buffers ≡ options.buffers → outcome.settled ≡ all_back options.buffers (length kept.js) → IsLastGraph plan.graphs outcome.last → outcome.rests ≡ rests
+      → outcome.buffers ≡ options.buffers → outcome.settled ≡ all_back options.buffers options.workers kept.js → IsLastGraph plan.graphs outcome.last → outcome.rests ≡ rests
       → AllWith (IsEmptied (queues_of crew.ring ws)) (pairs options.workers) rests → length plan.graphs ≤ (main_view outcome.seat.seat).stamp
       → IsOutcome visit lossless plan.graphs (run_of visit plan capture options).first capture options outcome
   is_outcome outcome rests is fates_moved fates_rise sent_moved sent_rise total merged buffers settled last rests_is emptied stamp =

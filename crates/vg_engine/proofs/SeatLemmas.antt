@@ -1,4 +1,4 @@
--- The seats, the parcels and the links of workers at the start of a run.
+-- For seats_of and workers_of: the seats, the parcels and the links of workers at the start of a run.
 use Rattle.std.proofs.Common.{◌≡◌, ℕ, zero, suc, ◌+◌, ◌<◌, List, [], ◌∷◌, length, map, refl, sym, ap, subst, ◌∙◌, arith}
 use Rattle.std.specs.Prelude.{slice_get, slice_index, Some}
 use mathlib.Core.Option.{some, some-injective, some-ne-none}
@@ -20,11 +20,11 @@ use Rattle.vg_dispatch.specs.contracts.parcels.WorkerParcelParcel.TheImpl.{ghost
 use Rattle.vg_dispatch.specs.declared.links.WorkerLinks.{WorkerLinks}
 use Rattle.vg_dispatch.specs.Parcels.{Fits}
 use Rattle.vg_dispatch.specs.Workers.{Windows}
-use Rattle.vg_engine.specs.Places.{AllAt, others_from}
-use Rattle.vg_engine.specs.Linked.{IsLinked}
-use Rattle.vg_engine.specs.Renewals.{parcel_generation}
+use Rattle.vg_workers.specs.Places.{AllAt, others_from}
+use Rattle.vg_workers.specs.Linked.{IsLinked}
+use Rattle.vg_threads.specs.Renewals.{parcel_generation}
 use Rattle.vg_engine.specs.Seats.{first_parcel, IsFirstSeat}
-use Rattle.vg_engine.proofs.PlaceLemmas.{first_get, first_from, get_within, others_length}
+use Rattle.vg_workers.proofs.PlaceLemmas.{first_get, first_from, get_within, others_length}
 
 -- what stands at a place, said in two ways
 elem_get : {X : Type 0} (xs : List X) (k : ℕ) (x : X) → get_elem? xs k ≡ some x → slice_get xs k ≡ Some x

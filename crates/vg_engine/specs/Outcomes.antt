@@ -11,19 +11,21 @@ use Rattle.vg_model.specs.Lawful.{AreLawfulChoices, hands_in}
 use Rattle.vg_model.specs.Count.{trace}
 use Rattle.vg_capture.specs.declared.captures.Capture.{Capture}
 use Rattle.vg_counters.specs.Tally.{Tally, drops_at}
+use Rattle.vg_pool.specs.declared.caches.CacheCounts.{CacheCounts}
 use Rattle.vg_pool.specs.Settlement.{Settlement}
 use Rattle.vg_ring.specs.declared.rest.Rest.{Rest}
 use Rattle.vg_ring.specs.Rests.{all_put, left}
 use Rattle.vg_barrier.specs.Seats.{main_view}
-use Rattle.vg_journeys.specs.Accounts.{HandoffFrame}
+use Rattle.vg_journeys.specs.Accounts.{HandoffFrame, below}
 use Rattle.vg_journeys.specs.Ends.{IsEndIn}
+use Rattle.vg_journeys.specs.Kept.{own_packets, ended_on}
 use Rattle.vg_journeys.specs.Outcomes.{AreCounts}
 use Rattle.vg_dispatch.specs.declared.options.Options.{Options}
 use Rattle.vg_dispatch.specs.Progress.{frames_of}
 use Rattle.vg_dispatch.specs.Standing.{NoneCongested}
 use Rattle.vg_plan.specs.Routed.{with_routes}
 use Rattle.vg_engine.specs.declared.runs.Outcome.{Outcome}
-use Rattle.vg_engine.specs.Places.{AllWith, pairs}
+use Rattle.vg_workers.specs.Places.{AllWith, pairs}
 
 -- there is a count for each node and each interface that a graph may have, and none has reached 2 ^ 63
 pub record AreWholeCounts (tally : Tally) : Type 0 where
@@ -47,9 +49,14 @@ pub record IsRestOf (js : List Journey) (pair : ℕ × ℕ) (rest : Rest Handoff
   pub empty : left rest ≡ []
   pub packets : (count : ℕ → ℕ) → sum_by count (numbers_in (all_put rest)) ≡ sum_by (λ j. count j.number * hands_in pair.0 pair.1 j.course.legs) js
 
--- the settlement of a pool that has all its buffers back, after its caches gave out one for each packet
-abbrev pub all_back : (buffers packets : ℕ) → Settlement
-all_back buffers packets = record { len = buffers; total = buffers; allocated = packets }
+-- what a worker's cache gave out and took in: a buffer for each packet of its own, and one for each that ended there
+abbrev pub counts_on : (workers : ℕ) → List Journey → ℕ → CacheCounts
+counts_on workers js worker = record { allocated = own_packets workers worker (length js); freed = ended_on worker js }
+
+-- the settlement of a pool that has all its buffers back, after each worker's cache, by number, gave out and took in those of its packets
+abbrev pub all_back : (buffers workers : ℕ) → List Journey → Settlement
+all_back buffers workers js =
+    record { len = buffers; total = buffers; allocated = length js; caches = map (counts_on workers js) (below workers) }
 
 -- the run of a capture through these generations, where `first i` is the first generation that packet i meets
 pub record IsOutcome (visit : Visit) (lossless : Bool) (graphs : List Graph) (first : ℕ → ℕ) (capture : Capture) (options : Options) (outcome : Outcome) : Type 0 where
@@ -69,9 +76,10 @@ pub record IsOutcome (visit : Visit) (lossless : Bool) (graphs : List Graph) (fi
   pub whole : AreWholeCounts outcome.counts
   -- the traces are those of the first packets, by number
   pub traces : outcome.trace ≡ map trace (take options.trace js)
-  -- every buffer is back, and one was given out for each packet, as the settlement of the pool says
+  -- every buffer is back, and one was given out for each packet by its first worker and taken in by its last, as the settlement of the pool
+  -- says
   pub buffers : outcome.buffers ≡ options.buffers
-  pub settled : outcome.settled ≡ all_back options.buffers (length js)
+  pub settled : outcome.settled ≡ all_back options.buffers options.workers js
   -- the graph of the last generation, in which each packet ends
   pub last : Graph
   pub is_last : IsLast graphs last

@@ -1,12 +1,10 @@
 //! The order in which main and the workers have their turns.
-ghost use Rattle.std.specs.Prelude.{length};
+ghost use Rattle.std.specs.Prelude.{◌≡◌, length, map};
 ghost use Rattle.vg_dispatch.specs.Standing.{barrier_id};
-ghost use Rattle.vg_engine.specs.Crews.{IsCrew, HaveStopped};
-ghost use Rattle.vg_engine.specs.Leads.{IsMain};
+ghost use Rattle.vg_workers.specs.Crews.{IsCrew, HaveStopped};
+ghost use Rattle.vg_threads.specs.Leads.{IsMain};
 ghost use Rattle.vg_engine.specs.Orders.{IsTurnByte, AreTurns};
 
-use crate::crews::{have_stopped, turn_all, turn_one};
-use crate::mains::Main;
 use std::alloc::Global;
 use std::sync::Wait;
 use std::sync::ledger::Ledger;
@@ -16,6 +14,8 @@ use vg_hands::{HandFrame, Handoff};
 use vg_nodes::KindSet;
 use vg_outside::Gate;
 use vg_pool::{LockedPool, PoolLedger};
+use vg_threads::Main;
+use vg_workers::{have_stopped, turn_all, turn_one};
 
 // Makes the turn that this byte names: `m` a step of main, a digit a turn of the worker with this number.
 fn take_turn<K: KindSet, H: Handoff<HandFrame>, T: PoolLedger, L: Ledger, R: Wait, G: Gate>(
@@ -34,6 +34,7 @@ fn take_turn<K: KindSet, H: Handoff<HandFrame>, T: PoolLedger, L: Ledger, R: Wai
     requires crew { IsCrew K.meaning H.LOSSLESS input.now.plan.now input.now.capture.now input.now.options.now (barrier_id barrier.now) workers.old.items }
     ensures main { IsMain input.now.plan.now input.now.capture.now barrier.now result }
     ensures crew { IsCrew K.meaning H.LOSSLESS input.now.plan.now input.now.capture.now input.now.options.now (barrier_id barrier.now) workers.new.items }
+    ensures rings { map (λ w. w.outputs) workers.new.items ≡ map (λ w. w.outputs) workers.old.items }
 {
     if turn == b'm' {
         return main.step(alloc, input, barrier);
@@ -63,6 +64,7 @@ pub(crate) fn follow<K: KindSet, H: Handoff<HandFrame>, T: PoolLedger, L: Ledger
     requires crew { IsCrew K.meaning H.LOSSLESS input.now.plan.now input.now.capture.now input.now.options.now (barrier_id barrier.now) workers.old.items }
     ensures main { IsMain input.now.plan.now input.now.capture.now barrier.now result }
     ensures crew { IsCrew K.meaning H.LOSSLESS input.now.plan.now input.now.capture.now input.now.options.now (barrier_id barrier.now) workers.new.items }
+    ensures rings { map (λ w. w.outputs) workers.new.items ≡ map (λ w. w.outputs) workers.old.items }
 {
     let mut main = main;
     for turn in turns {
@@ -86,6 +88,7 @@ pub(crate) fn lead<K: KindSet, H: Handoff<HandFrame>, T: PoolLedger, L: Ledger, 
     requires crew { IsCrew K.meaning H.LOSSLESS input.now.plan.now input.now.capture.now input.now.options.now (barrier_id barrier.now) workers.old.items }
     ensures main { IsMain input.now.plan.now input.now.capture.now barrier.now result }
     ensures crew { IsCrew K.meaning H.LOSSLESS input.now.plan.now input.now.capture.now input.now.options.now (barrier_id barrier.now) workers.new.items }
+    ensures rings { map (λ w. w.outputs) workers.new.items ≡ map (λ w. w.outputs) workers.old.items }
     ensures stopped { HaveStopped workers.new.items }
 {
     let mut main = main;

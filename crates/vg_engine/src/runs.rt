@@ -1,33 +1,26 @@
 //! A run.
-ghost use Rattle.std.specs.Prelude.{◌≡◌, ◌≤◌, [], IfOk, length};
+ghost use Rattle.std.specs.Prelude.{◌≡◌, ◌≤◌, [], IfOk, length, map, flat_map};
+ghost use Rattle.vg_ring.specs.Rests.{rest_ring};
 ghost use Rattle.vg_plan.specs.Plan.{first_generation};
 ghost use Rattle.vg_barrier.specs.Barrier.{IsSeatOf};
 ghost use Rattle.vg_barrier.specs.Seats.{main_view};
 ghost use Rattle.vg_dispatch.specs.Progress.{AreInRange};
 ghost use Rattle.vg_dispatch.specs.Standing.{barrier_id};
-ghost use Rattle.vg_engine.specs.Crews.{IsCrew, AreDone};
-ghost use Rattle.vg_engine.specs.Ended.{HaveKept};
-ghost use Rattle.vg_engine.specs.Leads.{IsLead};
-ghost use Rattle.vg_engine.specs.Linked.{AreLinked};
+ghost use Rattle.vg_workers.specs.Crews.{IsCrew, AreDone};
+ghost use Rattle.vg_workers.specs.Ended.{HaveKept};
+ghost use Rattle.vg_threads.specs.Leads.{IsLead, IsMain};
+ghost use Rattle.vg_workers.specs.Linked.{AreLinked};
 ghost use Rattle.vg_engine.specs.Orders.{AreTurns};
 ghost use Rattle.vg_engine.specs.Outcomes.{IsOutcome};
 
-use crate::closing::close_all;
-use crate::crews::{finish, have_ended};
-use crate::decisions::Lead;
-use crate::ends::{Ends, end_all};
-use crate::gather::{Gathered, gather};
 use crate::leading::{follow, lead};
-use crate::lists::room_for;
-use crate::mains::Main;
-use crate::rests::Rests;
 use crate::seats::{Seats, seats_of, workers_of};
 use std::alloc::Global;
 use std::marker::Brand;
 use std::sync::Wait;
 use std::sync::ledger::{Blank, Ledger};
 use vg_barrier::{Barrier, MainSeat};
-use vg_capture::Capture;
+use vg_capture::know_few;
 use vg_counters::{Counters, TraceLists};
 use vg_dispatch::{FateList, Input, Links, SentList, Worker, WorkerParcel};
 use vg_graph::Graph;
@@ -37,6 +30,10 @@ use vg_nodes::KindSet;
 use vg_outside::Gate;
 use vg_pool::{LockedPool, Pool, PoolLedger, Settled};
 use vg_ring::Rest;
+use vg_threads::{Lead, Main};
+use vg_workers::gather::{Gathered, gather};
+use vg_workers::lists::room_for;
+use vg_workers::{Ends, Rests, close_all, end_all, finish, have_ended};
 
 /// What came of a run.
 #[derive(Drop)]
@@ -56,17 +53,11 @@ pub struct Outcome {
     pub settled: Settled,
     /// The graph of the last generation, without its routes.
     pub last: Graph,
-    /// The closed queues, one from each worker to each other: by the worker from which, and then by the worker to which they lead.
+    /// The closed queues, one from each worker to each other: by the worker from which, and then by the worker to which they lead. Each is
+    /// of the ring that the links named.
     pub rests: Rests,
     /// Main's seat at the barrier of the run.
     pub seat: MainSeat<WorkerParcel>,
-}
-
-// A reader tells how many packets a capture may have.
-fn know_few(capture: &Capture)
-    ensures { length capture.now.packets ≤ 65536 }
-{
-    let _count = capture.packets.len();
 }
 
 /// Room for what the end of a run puts together.
@@ -118,8 +109,9 @@ pub(crate) fn conclude<K: KindSet, H: Handoff<HandFrame>, T: PoolLedger, L: Ledg
     requires crew { IsCrew K.meaning H.LOSSLESS input.now.plan.now input.now.capture.now input.now.options.now (barrier_id barrier.now) workers.items }
     requires done { AreDone workers.items }
     requires lead { IsLead input.now.plan.now input.now.capture.now (main_view seat.seat).released (main_view seat.seat).stamp lead.now }
-    ensures { IfOk result (IsOutcome K.meaning H.LOSSLESS input.now.plan.now.graphs
+    ensures outcome { IfOk result (IsOutcome K.meaning H.LOSSLESS input.now.plan.now.graphs
         (first_generation input.now.plan.now.script input.now.capture.now) input.now.capture.now input.now.options.now) }
+    ensures rings { IfOk result (λ outcome. map rest_ring outcome.rests ≡ flat_map (λ w. w.outputs) workers.items) }
 {
     know_few(input.capture);
     let Room { ends, rests } = room;
@@ -162,6 +154,96 @@ pub(crate) fn conclude<K: KindSet, H: Handoff<HandFrame>, T: PoolLedger, L: Ledg
     })
 }
 
+/// A run: main and the workers at their barrier, the pool of their buffers, and room for what comes of it.
+#[derive(Drop)]
+pub(crate) struct Run<K: KindSet, H: Handoff<HandFrame>, T: PoolLedger, L: Ledger> {
+    pub pool: LockedPool<T, L>,
+    pub barrier: Barrier<WorkerParcel>,
+    pub main: Main,
+    pub workers: Vec<Worker<K, H, T, L>>,
+    pub room: Room<T, L>,
+}
+
+/// A run at its start: its pool is full, main is idle, and no worker has a packet. Its buffers are counted in these two ledgers.
+///
+/// # Errors
+///
+/// [`Memory`] where memory runs out.
+pub(crate) fn begin<K: KindSet, H: Handoff<HandFrame>, T: PoolLedger, L: Ledger>(
+    alloc: Global,
+    input: &Input<'_>,
+    kinds: &K,
+    links: Links<H>,
+    taken: Blank,
+    given: Blank,
+) -> Result<Run<K, H, T, L>, Memory>
+    requires options { AreInRange input.now.options.now }
+    requires links { AreLinked H.accepted H.ring H.slots input.now.options.now.workers input.now.options.now.queue links.workers.items }
+    requires total { T.total ≡ input.now.options.now.buffers }
+    requires taken { (taken.name ≡ T.name) × (taken.parts ≡ T.parts) × (taken.parts ≡ input.now.options.now.workers) }
+    requires given { (given.name ≡ L.name) × (given.parts ≡ L.parts) × (given.parts ≡ input.now.options.now.workers) }
+    ensures main { IfOk result (λ run. IsMain input.now.plan.now input.now.capture.now run.barrier run.main) }
+    ensures crew { IfOk result (λ run. IsCrew K.meaning H.LOSSLESS input.now.plan.now input.now.capture.now input.now.options.now (barrier_id run.barrier) run.workers.items) }
+    ensures rings { IfOk result (λ run. map (λ w. w.outputs) run.workers.items ≡ map (λ l. map H.ring l.outputs.items) links.workers.items) }
+    ensures ends { IfOk result (λ run. HaveKept [] run.room.ends) }
+    ensures rests { IfOk result (λ run. run.room.rests.items ≡ []) }
+{
+    let count = input.options.workers as usize;
+    let (pool, caches) = Pool::<T, L>::new(alloc, input.options.buffers, count, taken, given)?;
+    let pool = LockedPool::new(pool);
+    let room = room_of(alloc, input.options.workers)?;
+    let Seats {
+        barrier,
+        main,
+        workers,
+    } = seats_of(alloc, input)?;
+    let workers = workers_of(alloc, input, kinds, links, caches, workers, &barrier)?;
+    Ok(Run {
+        pool,
+        barrier,
+        main,
+        workers,
+        room,
+    })
+}
+
+/// What comes of a run: main and the workers have turns, one after the other, until each worker has stopped; then the workers take
+/// the frames that are left in queues.
+///
+/// # Errors
+///
+/// [`Memory`] where memory runs out, or ran out before the last generation was over.
+pub(crate) fn end<K: KindSet, H: Handoff<HandFrame>, T: PoolLedger, L: Ledger, R: Wait, G: Gate>(
+    rt: &R,
+    alloc: Global,
+    run: Run<K, H, T, L>,
+    input: &Input<'_>,
+    gate: &G,
+) -> Result<Outcome, Memory>
+    requires options { AreInRange input.now.options.now }
+    requires total { T.total ≡ input.now.options.now.buffers }
+    requires parts { (T.parts ≡ input.now.options.now.workers) × (L.parts ≡ input.now.options.now.workers) }
+    requires main { IsMain input.now.plan.now input.now.capture.now run.barrier run.main }
+    requires crew { IsCrew K.meaning H.LOSSLESS input.now.plan.now input.now.capture.now input.now.options.now (barrier_id run.barrier) run.workers.items }
+    requires ends { HaveKept [] run.room.ends }
+    requires rests { run.room.rests.items ≡ [] }
+    ensures outcome { IfOk result (IsOutcome K.meaning H.LOSSLESS input.now.plan.now.graphs
+        (first_generation input.now.plan.now.script input.now.capture.now) input.now.capture.now input.now.options.now) }
+    ensures rings { IfOk result (λ outcome. map rest_ring outcome.rests ≡ flat_map (λ w. w.outputs) run.workers.items) }
+{
+    let Run {
+        pool,
+        barrier,
+        main,
+        mut workers,
+        room,
+    } = run;
+    let main = lead(rt, alloc, main, &mut workers, input, &barrier, &pool, gate);
+    finish(rt, &mut workers, input, &barrier, &pool);
+    let (seat, lead) = main.rest(rt, alloc, input, &barrier);
+    conclude(alloc, input, workers, &lead, seat, &barrier, pool, room)
+}
+
 // Runs a capture, with these turns of main and the workers, and then by turns. Its buffers are counted in these two ledgers.
 fn run_counted<K: KindSet, H: Handoff<HandFrame>, T: PoolLedger, L: Ledger, R: Wait, G: Gate>(
     rt: &R,
@@ -180,19 +262,17 @@ fn run_counted<K: KindSet, H: Handoff<HandFrame>, T: PoolLedger, L: Ledger, R: W
     requires total { T.total ≡ input.now.options.now.buffers }
     requires taken { (taken.name ≡ T.name) × (taken.parts ≡ T.parts) × (taken.parts ≡ input.now.options.now.workers) }
     requires given { (given.name ≡ L.name) × (given.parts ≡ L.parts) × (given.parts ≡ input.now.options.now.workers) }
-    ensures { IfOk result (IsOutcome K.meaning H.LOSSLESS input.now.plan.now.graphs
+    ensures outcome { IfOk result (IsOutcome K.meaning H.LOSSLESS input.now.plan.now.graphs
         (first_generation input.now.plan.now.script input.now.capture.now) input.now.capture.now input.now.options.now) }
+    ensures rings { IfOk result (λ outcome. map rest_ring outcome.rests ≡ flat_map (λ l. map H.ring l.outputs.items) links.workers.items) }
 {
-    let count = input.options.workers as usize;
-    let (pool, caches) = Pool::<T, L>::new(alloc, input.options.buffers, count, taken, given)?;
-    let pool = LockedPool::new(pool);
-    let room = room_of(alloc, input.options.workers)?;
-    let Seats {
+    let Run {
+        pool,
         barrier,
         main,
-        workers,
-    } = seats_of(alloc, input)?;
-    let mut workers = workers_of(alloc, input, kinds, links, caches, workers, &barrier)?;
+        mut workers,
+        room,
+    } = begin::<K, H, T, L>(alloc, input, kinds, links, taken, given)?;
     let main = follow(
         rt,
         alloc,
@@ -204,10 +284,14 @@ fn run_counted<K: KindSet, H: Handoff<HandFrame>, T: PoolLedger, L: Ledger, R: W
         &pool,
         gate,
     );
-    let main = lead(rt, alloc, main, &mut workers, input, &barrier, &pool, gate);
-    finish(rt, &mut workers, input, &barrier, &pool);
-    let (seat, lead) = main.rest(rt, alloc, input, &barrier);
-    conclude(alloc, input, workers, &lead, seat, &barrier, pool, room)
+    let run = Run {
+        pool,
+        barrier,
+        main,
+        workers,
+        room,
+    };
+    end(rt, alloc, run, input, gate)
 }
 
 /// Runs a capture on several workers, on this thread.
@@ -231,8 +315,9 @@ pub fn run_turns<K: KindSet, H: Handoff<HandFrame>, R: Wait, G: Gate>(
     requires options { AreInRange input.now.options.now }
     requires links { AreLinked H.accepted H.ring H.slots input.now.options.now.workers input.now.options.now.queue links.workers.items }
     requires turns { AreTurns input.now.options.now.workers turns.now }
-    ensures { IfOk result (IsOutcome K.meaning H.LOSSLESS input.now.plan.now.graphs
+    ensures outcome { IfOk result (IsOutcome K.meaning H.LOSSLESS input.now.plan.now.graphs
         (first_generation input.now.plan.now.script input.now.capture.now) input.now.capture.now input.now.options.now) }
+    ensures rings { IfOk result (λ outcome. map rest_ring outcome.rests ≡ flat_map (λ l. map H.ring l.outputs.items) links.workers.items) }
 {
     let parts = u64::from(input.options.workers);
     run_counted::<K, H, Brand, Brand, R, G>(

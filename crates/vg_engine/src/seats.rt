@@ -1,21 +1,17 @@
 //! Main and the workers at a barrier of their own.
-ghost use Rattle.std.specs.Prelude.{◌≡◌, ◌≤◌, IfOk, length};
+ghost use Rattle.std.specs.Prelude.{◌≡◌, ◌≤◌, IfOk, length, map};
 ghost use Rattle.std.specs.List.{AllByRecursion};
 ghost use Rattle.vg_model.specs.Graph.{Graph};
 ghost use Rattle.vg_model.specs.PoolBook.{empty_cache};
 ghost use Rattle.vg_plan.specs.Plan.{windows};
 ghost use Rattle.vg_dispatch.specs.Progress.{AreInRange};
 ghost use Rattle.vg_dispatch.specs.Standing.{barrier_id};
-ghost use Rattle.vg_engine.specs.Crews.{IsCrew};
-ghost use Rattle.vg_engine.specs.Leads.{IsMain};
-ghost use Rattle.vg_engine.specs.Linked.{AreLinked};
-ghost use Rattle.vg_engine.specs.Places.{AllAt};
+ghost use Rattle.vg_workers.specs.Crews.{IsCrew};
+ghost use Rattle.vg_threads.specs.Leads.{IsMain};
+ghost use Rattle.vg_workers.specs.Linked.{AreLinked};
+ghost use Rattle.vg_workers.specs.Places.{AllAt};
 ghost use Rattle.vg_engine.specs.Seats.{IsFirstSeat, first_parcel};
 
-use crate::decisions::Lead;
-use crate::forks::forks_of;
-use crate::lists::push;
-use crate::mains::{Main, Phase, Way};
 use std::alloc::Global;
 use std::sync::ledger::Ledger;
 use vg_barrier::{Barrier, Running};
@@ -27,6 +23,8 @@ use vg_nodes::KindSet;
 use vg_plan::Master;
 use vg_pool::{Cache, PoolLedger};
 use vg_process::Processes;
+use vg_threads::{Lead, Main, Phase, Way, forks_of};
+use vg_workers::lists::push;
 
 /// A barrier with main and the seats of the workers, by number.
 #[derive(Drop)]
@@ -123,7 +121,8 @@ pub(crate) fn workers_of<K: KindSet, H: Handoff<HandFrame>, T: PoolLedger, L: Le
     requires counts { (length caches.items ≡ input.now.options.now.workers) × (length seats.items ≡ input.now.options.now.workers) }
     requires caches { AllByRecursion (λ cache. cache ≡ empty_cache) caches.items }
     requires seats { AllAt (IsFirstSeat (windows input.now.plan.now input.now.capture.now) (barrier_id barrier.now)) 0 seats.items }
-    ensures { IfOk result (λ workers. IsCrew K.meaning H.LOSSLESS input.now.plan.now input.now.capture.now input.now.options.now (barrier_id barrier.now) workers.items) }
+    ensures crew { IfOk result (λ workers. IsCrew K.meaning H.LOSSLESS input.now.plan.now input.now.capture.now input.now.options.now (barrier_id barrier.now) workers.items) }
+    ensures rings { IfOk result (λ workers. map (λ w. w.outputs) workers.items ≡ map (λ l. map H.ring l.outputs.items) links.workers.items) }
 {
     let mut workers = Vec::new(alloc);
     let mut caches = caches.into_iter();

@@ -1,6 +1,9 @@
 //! The words of the command line: the usage, and what is wrong with words that ask for nothing.
 
 use std::alloc::{AllocError, Global};
+use vg_model::limits::{
+    FRAME_SIZE, MOST_BUFFERS, MOST_PACKETS, MOST_SLOTS, MOST_TRACED, MOST_WORKERS,
+};
 
 /// How the program is called.
 pub const USAGE: &str = "usage:
@@ -34,28 +37,31 @@ fn option_named(command: &str, name: &str) -> Option<Follows> {
     if name == "queue" {
         return Some(Follows::Number {
             least: 1,
-            most: 256,
+            most: MOST_SLOTS,
         });
     }
     if command != "run" {
         return None;
     }
     if name == "workers" {
-        Some(Follows::Number { least: 1, most: 8 })
+        Some(Follows::Number {
+            least: 1,
+            most: MOST_WORKERS as u64,
+        })
     } else if name == "buffers" {
         Some(Follows::Number {
             least: 512,
-            most: 16_384,
+            most: MOST_BUFFERS as u64,
         })
     } else if name == "burst" {
         Some(Follows::Number {
             least: 1,
-            most: 256,
+            most: FRAME_SIZE as u64,
         })
     } else if name == "trace" {
         Some(Follows::Number {
             least: 0,
-            most: 256,
+            most: MOST_TRACED as u64,
         })
     } else if name == "turns" {
         Some(Follows::Name)
@@ -301,13 +307,13 @@ fn numbers_fault(alloc: Global, words: &[&str]) -> Result<Option<String>, AllocE
         )?));
     }
     let word = words[1];
-    if !is_between(word, 1, 65_536) {
+    if !is_between(word, 1, MOST_PACKETS as u64) {
         return Ok(Some(format!(in alloc;
             "PACKETS is a number from 1 to 65536, and not `{word}`\n"
         )?));
     }
     let word = words[2];
-    if !is_between(word, 1, 8) {
+    if !is_between(word, 1, MOST_WORKERS as u64) {
         return Ok(Some(format!(in alloc; "WORKERS is a number from 1 to 8, and not `{word}`\n")?));
     }
     Ok(None)

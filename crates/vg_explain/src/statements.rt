@@ -1,6 +1,7 @@
 //! The statements of a script: what is wanted at each word.
 
 use vg_model::Name;
+use vg_model::limits::{LONGEST_TIME, MOST_EVENTS};
 
 /// What is wanted at a place of a statement.
 #[derive(Clone, Copy, Debug, PartialEq, Eq)]
@@ -17,8 +18,6 @@ pub enum Wanted {
     /// Nothing: the statement has ended.
     Nothing,
 }
-
-const A_TIME: u64 = 1_000_000_000_000;
 
 fn of_interface(place: usize) -> Wanted {
     match place {
@@ -52,12 +51,12 @@ fn of_process(place: usize) -> Wanted {
         2 => Wanted::Word("every"),
         3 => Wanted::Number {
             least: 1,
-            most: A_TIME,
+            most: LONGEST_TIME,
         },
         4 => Wanted::Word("count"),
         5 => Wanted::Number {
             least: 1,
-            most: 999,
+            most: MOST_EVENTS,
         },
         _ => Wanted::Nothing,
     }
@@ -120,7 +119,7 @@ pub fn wanted_at(statement: &[u8], place: usize) -> Wanted {
         match place {
             1 => Wanted::Number {
                 least: 0,
-                most: A_TIME,
+                most: LONGEST_TIME,
             },
             _ => Wanted::Nothing,
         }

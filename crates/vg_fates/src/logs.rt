@@ -101,12 +101,8 @@ impl FateLog {
         requires { room ≤ 65536 }
         ensures { IfOk result (λ log. log ≡ record { items = []; room = room }) }
     {
-        let Ok(entries) = Vec::with_capacity(alloc, room) else {
-            return Err(Memory);
-        };
-        let Ok(others) = Vec::with_capacity(alloc, room) else {
-            return Err(Memory);
-        };
+        let entries = Vec::with_capacity(alloc, room)?;
+        let others = Vec::with_capacity(alloc, room)?;
         Ok(FateLog {
             entries,
             others,
@@ -357,18 +353,14 @@ impl FateList {
         if more_others.len() > (u32::MAX - places) as usize {
             return Err(Memory);
         }
-        let Ok(()) = others.append(&mut more_others) else {
-            return Err(Memory);
-        };
+        others.append(&mut more_others)?;
         let more = all_moved(more, places);
-        let Ok(entries) = merged(
+        let entries = merged(
             alloc,
             entries.as_slice(),
             more.as_slice(),
             others.as_slice(),
-        ) else {
-            return Err(Memory);
-        };
+        )?;
         Ok(FateList { entries, others })
     }
 

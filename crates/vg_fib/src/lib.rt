@@ -21,5 +21,5 @@ pub mod laws;
 mod table;
 mod trie;
 
-pub use table::{Fib, FibError, MOST_ROUTES, NoSuchRoute};
+pub use table::{Fib, FibError, NoSuchRoute};
 pub use trie::Mtrie;

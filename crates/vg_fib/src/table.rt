@@ -11,10 +11,8 @@ use std::alloc::{AllocError, Global};
 use std::error::Error;
 use std::fmt;
 use std::marker::Model;
+use vg_model::limits::MOST_ROUTES;
 use vg_model::{Memory, Prefix, RouteTo};
-
-/// The most routes of a table.
-pub const MOST_ROUTES: usize = 4096;
 
 /// Why a route is not set.
 #[derive(Clone, Copy, Debug, PartialEq, Eq)]
@@ -186,8 +184,8 @@ impl Fib {
             mut routes,
             mut order,
         } = self;
-        overwrite(&mut routes, other.routes.as_slice()).map_err(|_| Memory)?;
-        overwrite(&mut order, other.order.as_slice()).map_err(|_| Memory)?;
+        overwrite(&mut routes, other.routes.as_slice())?;
+        overwrite(&mut order, other.order.as_slice())?;
         Ok(Fib { routes, order })
     }
 }

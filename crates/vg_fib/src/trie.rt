@@ -271,7 +271,7 @@ impl Mtrie {
         ensures routes { IfOk result (λ trie. trie ≡ fib.now) }
         ensures finds { IfOk result (λ trie. (address : ℕ) → best_route trie address ≡ best_route fib.now address) }
     {
-        Mtrie::anew(Levels::bare(alloc), Vec::new(alloc), alloc, fib).map_err(|_| Memory)
+        Mtrie::anew(Levels::bare(alloc), Vec::new(alloc), alloc, fib)
     }
 
     /// The same as [`Mtrie::build`], in the memory of this trie as far as it is enough. Where the prefixes of this trie are the
@@ -284,13 +284,11 @@ impl Mtrie {
         ensures routes { IfOk result (λ trie. trie ≡ fib.now) }
         ensures finds { IfOk result (λ trie. (address : ℕ) → best_route trie address ≡ best_route fib.now address) }
     {
-        let answer = if begins_with(fib.routes(), self.routes.as_slice()) {
-            self.grown(alloc, fib)
-        } else {
-            let Mtrie { levels, routes } = self;
-            Mtrie::anew(levels, routes, alloc, fib)
-        };
-        answer.map_err(|_| Memory)
+        if begins_with(fib.routes(), self.routes.as_slice()) {
+            return self.grown(alloc, fib);
+        }
+        let Mtrie { levels, routes } = self;
+        Mtrie::anew(levels, routes, alloc, fib)
     }
 
     // The trie of a table, in this memory, whatever it says.
@@ -299,7 +297,7 @@ impl Mtrie {
         mut routes: Vec<(Prefix, RouteTo)>,
         alloc: Global,
         fib: &Fib,
-    ) -> Result<Mtrie, AllocError>
+    ) -> Result<Mtrie, Memory>
         ensures { IfOk result (λ trie. trie ≡ fib.now) }
     {
         routes.clear();
@@ -312,7 +310,7 @@ impl Mtrie {
 
     // The trie of a table whose first prefixes are those of this trie: their targets are the table's, and the other
     // prefixes are put in.
-    fn grown(self, alloc: Global, fib: &Fib) -> Result<Mtrie, AllocError>
+    fn grown(self, alloc: Global, fib: &Fib) -> Result<Mtrie, Memory>
         requires { BeginsWith fib.now self }
         ensures { IfOk result (λ trie. trie ≡ fib.now) }
     {

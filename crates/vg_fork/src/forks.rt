@@ -77,9 +77,7 @@ impl Fork {
     pub fn shared(&self, alloc: Global) -> Result<Fork, Memory>
         ensures { IfOk result (λ fork. fork ≡ self.now) }
     {
-        let Ok(trie) = Arc::try_clone(&self.trie) else {
-            return Err(Memory);
-        };
+        let trie = Arc::try_clone(&self.trie)?;
         Ok(Fork {
             graph: self.graph.copy(alloc)?,
             trie,
@@ -92,9 +90,7 @@ impl Fork {
         ensures { IfOk result (λ fork. fork ≡ forked graph.now trie generation) }
     {
         know_kept(graph);
-        let Ok(trie) = Arc::new(alloc, trie) else {
-            return Err(Memory);
-        };
+        let trie = Arc::new(alloc, trie)?;
         Ok(Fork {
             graph: graph.copy(alloc)?,
             trie,

@@ -1,4 +1,4 @@
--- What a store keeps as indexes are put and frames are taken.
+-- For `put` and `next_frame` of a store: what it keeps as indexes are put and frames are taken.
 use Rattle.std.proofs.Common.{◌≡◌, ◌≢◌, ℕ, zero, suc, ◌+◌, ◌*◌, ◌<◌, ◌≤◌, List, [], ◌∷◌, ◌++◌, length, get_or, set, take, drop, replicate, refl, sym, ap, ◌∙◌, subst, arith, ⊎_elim}
 use Rattle.std.specs.List.{All}
 use Rattle.std.specs.Int.{bit_at}
@@ -52,7 +52,9 @@ pending-set queues node new d change within is =
     map-set (λ (v : Waiting). v.indexes) queues node new ∙ ap (λ xs. set (pending queues) node xs) (is ∙ ap change (sym (pending_at-pending queues node d within)))
 
 -- a queue changes: what waits for the other nodes is as it was
-pub IsStore-set : (queues : List Waiting) (spare bits spare' bits' node : ℕ) (new d : Waiting) → IsStore queues spare bits → node < length queues → IsCut new → spare' + new.full ≡ spare + (get_or queues node d).full → SetsBit bits bits' node (busy_bit new.indexes) → IsStore (set queues node new) spare' bits'
+pub IsStore-set : (queues : List Waiting) (spare bits spare' bits' node : ℕ) (new d : Waiting)
+    → IsStore queues spare bits → node < length queues → IsCut new → spare' + new.full ≡ spare + (get_or queues node d).full → SetsBit bits bits' node (busy_bit new.indexes)
+    → IsStore (set queues node new) spare' bits'
 IsStore-set queues spare bits spare' bits' node new d store within cut frames bit =
     let total = sum_by-set (λ (v : Waiting). v.full) queues node new d within in
     let sum = store.frames in
@@ -131,7 +133,9 @@ busy_within queues spare bits node store found =
         omega arith
 
 -- the frame that the queue of the lowest node of the set gives
-pub takes_frame : (queues : List Waiting) (spare bits node : ℕ) (new d : Waiting) (frame : List ℕ) → IsStore queues spare bits → IsLowest bits node → frame ≡ take frame_size (get_or queues node d).indexes → new.indexes ≡ drop frame_size (get_or queues node d).indexes → TakesFrame (pending queues) node frame (pending (set queues node new))
+pub takes_frame : (queues : List Waiting) (spare bits node : ℕ) (new d : Waiting) (frame : List ℕ)
+    → IsStore queues spare bits → IsLowest bits node → frame ≡ take frame_size (get_or queues node d).indexes → new.indexes ≡ drop frame_size (get_or queues node d).indexes
+    → TakesFrame (pending queues) node frame (pending (set queues node new))
 takes_frame queues spare bits node new d frame store found oldest rest =
     let within = busy_within queues spare bits node store found in
     record {

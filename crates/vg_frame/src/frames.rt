@@ -4,9 +4,7 @@ ghost use Rattle.vg_frame.specs.Pending.{frame_size};
 
 use arrayvec::ArrayVec;
 use std::marker::Model;
-
-/// The most indexes of a frame.
-pub const FRAME_SIZE: usize = 256;
+use vg_model::limits::FRAME_SIZE;
 
 /// A frame: a list of at most [`FRAME_SIZE`] buffer indexes.
 #[derive(Drop)]

@@ -17,6 +17,6 @@ mod queues;
 mod spares;
 pub mod store;
 
-pub use frames::{FRAME_SIZE, Frame};
-pub use memory::{BufferMemory, MOST_PLACED};
-pub use store::{FRAMES, FrameStore, MOST_NODES, MOST_PENDING};
+pub use frames::Frame;
+pub use memory::BufferMemory;
+pub use store::{FRAMES, FrameStore};

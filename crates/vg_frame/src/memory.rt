@@ -8,12 +8,10 @@ use slab::Slab;
 use std::alloc::Global;
 use std::marker::Model;
 use vg_model::Memory;
+use vg_model::limits::MOST_UNDER_WAY;
 use vg_pool::Buffer;
 
-/// The most buffers of a memory.
-pub const MOST_PLACED: usize = 2304;
-
-/// The buffers that a worker has under way, at most [`MOST_PLACED`], each under an index.
+/// The buffers that a worker has under way, at most [`MOST_UNDER_WAY`], each under an index.
 ///
 /// A buffer keeps its index until it is lifted, and only then another one may get it.
 #[derive(Drop)]
@@ -35,7 +33,7 @@ impl Model for BufferMemory {
 }
 
 impl BufferMemory {
-    /// A memory with no buffer, and room for [`MOST_PLACED`].
+    /// A memory with no buffer, and room for [`MOST_UNDER_WAY`].
     ///
     /// # Errors
     ///
@@ -43,9 +41,7 @@ impl BufferMemory {
     pub fn new(alloc: Global) -> Result<BufferMemory, Memory>
         ensures { IfOk result (λ memory. memory ≡ []) }
     {
-        let Ok(buffers) = Slab::with_capacity(alloc, MOST_PLACED) else {
-            return Err(Memory);
-        };
+        let buffers = Slab::with_capacity(alloc, MOST_UNDER_WAY)?;
         // Indexes are `u32`. No allocator gives so much more than was asked for.
         if buffers.capacity() > u32::MAX as usize {
             return Err(Memory);

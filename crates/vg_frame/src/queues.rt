@@ -3,11 +3,12 @@ ghost use Rattle.std.specs.Prelude.{◌≡◌, ◌+◌, ◌<◌, ◌≤◌, ◌�
 ghost use Rattle.vg_frame.specs.Pending.{frame_size};
 ghost use Rattle.vg_frame.specs.Waiting.{Waiting, IsCut, most_full, most_frames, none_waits};
 
-use crate::frames::{FRAME_SIZE, Frame};
+use crate::frames::Frame;
 use crate::spares::Spares;
 use std::alloc::{AllocError, Global};
 use std::marker::Model;
 use std::mem;
+use vg_model::limits::FRAME_SIZE;
 
 // The most full frames that may wait for a node: as many as there are in all the indexes of a store.
 const MOST_FULL: usize = 9;

@@ -7,19 +7,13 @@ use crate::frames::Frame;
 use crate::node_set::NodeSet;
 use crate::queues::Queue;
 use crate::spares::Spares;
-use std::alloc::{AllocError, Global};
+use std::alloc::Global;
 use std::marker::Model;
 use vg_model::Memory;
 
-/// The frames of a store. That is enough: each node has one that isn't full, and of the indexes of [`MOST_PENDING`] no more than
+/// The frames of a store. That is enough: each node has one that isn't full, and of the indexes of [`MOST_UNDER_WAY`](vg_model::limits::MOST_UNDER_WAY) no more than
 /// nine frames get full.
 pub const FRAMES: usize = 80;
-
-/// The most nodes of a store.
-pub const MOST_NODES: usize = 64;
-
-/// The most indexes that wait in a store.
-pub const MOST_PENDING: usize = 2304;
 
 /// Buffer indexes that wait for nodes, cut into frames: one list for each node, the oldest index first.
 #[derive(Drop)]
@@ -49,16 +43,6 @@ impl FrameStore {
     ///
     /// [`Memory`] where memory runs out.
     pub fn new(alloc: Global, nodes: u16) -> Result<FrameStore, Memory>
-        requires { nodes ≤ most_nodes }
-        ensures { IfOk result (λ store. store ≡ replicate nodes []) }
-    {
-        match FrameStore::made(alloc, nodes) {
-            Ok(store) => Ok(store),
-            Err(_) => Err(Memory),
-        }
-    }
-
-    fn made(alloc: Global, nodes: u16) -> Result<FrameStore, AllocError>
         requires { nodes ≤ most_nodes }
         ensures { IfOk result (λ store. store ≡ replicate nodes []) }
     {

@@ -3,6 +3,7 @@ ghost use Rattle.std.specs.Prelude.{◌≡◌, length};
 ghost use Rattle.vg_model.specs.Valid.{IsMac, AreBytes};
 
 use vg_model::Mac;
+use vg_model::lists::know_bytes;
 
 /// An address has six bytes.
 pub fn know_mac(mac: &Mac)
@@ -17,11 +18,4 @@ fn know_six(bytes: &[u8; 6])
     ensures bytes { AreBytes bytes.now }
 {
     know_bytes(bytes);
-}
-
-// Each byte is below 256.
-fn know_bytes(bytes: &[u8])
-    ensures { AreBytes bytes.now }
-{
-    let _ = bytes;
 }

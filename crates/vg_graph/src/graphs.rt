@@ -8,22 +8,14 @@ ghost use Rattle.vg_graph.specs.Refusals.{IsGraphEdit, IsRefusedBy, Answers, pla
 
 use crate::addresses::know_mac;
 use crate::errors::GraphError;
-use crate::lists::{append, copied, copy_list, place_named, put};
+use crate::lists::{append, copy_list, place_named, put};
 use crate::nodes::{Node, is_source};
 use crate::search::Search;
 use crate::start::{start_interface, start_nodes};
-use std::alloc::{AllocError, Global};
+use std::alloc::Global;
 use std::marker::Model;
+use vg_model::limits::{MOST_ADJACENCIES, MOST_INTERFACES, MOST_NODES};
 use vg_model::{Adjacency, Edit, Interface, Kind, Mac, Memory, Name};
-
-/// The most nodes of a graph.
-pub const MOST_NODES: usize = 64;
-
-/// The most interfaces of a graph.
-pub const MOST_INTERFACES: usize = 16;
-
-/// The most adjacencies of a graph.
-pub const MOST_ADJACENCIES: usize = 256;
 
 /// A graph of nodes whose slots lead to nodes, with interfaces and adjacencies.
 ///
@@ -187,7 +179,7 @@ impl Graph {
         if self.node(name).is_some() {
             return Err(GraphError::DoubleName);
         }
-        append(&mut self.nodes, MOST_NODES, Node::new(copied(name), kind))
+        append(&mut self.nodes, MOST_NODES, Node::new(name.copied(), kind))
     }
 
     fn set_interface(&mut self, interface: Interface) -> Result<(), GraphError>
@@ -236,7 +228,7 @@ impl Graph {
             } => {
                 know_mac(mac);
                 self.set_interface(Interface {
-                    name: copied(name),
+                    name: name.copied(),
                     mac: *mac,
                     mtu: *mtu,
                     up: *up,
@@ -254,7 +246,7 @@ impl Graph {
                 match self.interface(interface) {
                     None => Err(GraphError::UnknownInterface),
                     Some(interface) => self.set_adjacency(Adjacency {
-                        name: copied(name),
+                        name: name.copied(),
                         interface,
                         mac: *mac,
                     }),
@@ -268,15 +260,6 @@ impl Graph {
     pub fn copy(&self, alloc: Global) -> Result<Graph, Memory>
         ensures { IfOk result (λ copy. copy ≡ self.now) }
     {
-        match self.copied(alloc) {
-            Ok(copy) => Ok(copy),
-            Err(_) => Err(Memory),
-        }
-    }
-
-    fn copied(&self, alloc: Global) -> Result<Graph, AllocError>
-        ensures { IfOk result (λ copy. copy ≡ self.now) }
-    {
         Ok(Graph {
             nodes: copy_list(alloc, self.nodes.as_slice())?,
             interfaces: copy_list(alloc, self.interfaces.as_slice())?,
@@ -287,15 +270,6 @@ impl Graph {
     /// The graph that a run starts from: nine nodes from `pg-input` to `error-drop`, the interface `pg0`, no adjacency.
     /// `Memory` comes where memory runs out.
     pub fn start(alloc: Global) -> Result<Graph, Memory>
-        ensures { IfOk result (λ graph. graph ≡ start_graph) }
-    {
-        match Graph::started(alloc) {
-            Ok(graph) => Ok(graph),
-            Err(_) => Err(Memory),
-        }
-    }
-
-    fn started(alloc: Global) -> Result<Graph, AllocError>
         ensures { IfOk result (λ graph. graph ≡ start_graph) }
     {
         Ok(Graph {

@@ -10,4 +10,4 @@ mod search;
 mod start;
 
 pub use errors::GraphError;
-pub use graphs::{Graph, MOST_ADJACENCIES, MOST_INTERFACES, MOST_NODES};
+pub use graphs::Graph;

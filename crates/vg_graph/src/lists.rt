@@ -29,7 +29,7 @@ impl Entry for Interface {
 
     fn copy(&self) -> Interface {
         Interface {
-            name: copied(&self.name),
+            name: self.name.copied(),
             mac: self.mac,
             mtu: self.mtu,
             up: self.up,
@@ -47,18 +47,11 @@ impl Entry for Adjacency {
 
     fn copy(&self) -> Adjacency {
         Adjacency {
-            name: copied(&self.name),
+            name: self.name.copied(),
             interface: self.interface,
             mac: self.mac,
         }
     }
-}
-
-/// The same name once more.
-pub fn copied(name: &Name) -> Name
-    ensures { result ≡ name.now }
-{
-    name.clone().unwrap()
 }
 
 fn position_named<T: Entry>(list: &[T], name: &Name) -> Option<usize>

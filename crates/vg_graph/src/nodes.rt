@@ -3,12 +3,10 @@ ghost use Rattle.std.specs.Prelude.{◌≡◌, ◌<◌, length, replicate, slice
 ghost use Rattle.vg_model.specs.Graph.{slots, error_drop};
 ghost use Rattle.vg_model.specs.Edit.{is_source as is_source_kind};
 
-use crate::lists::{Entry, copied};
+use crate::lists::Entry;
 use arrayvec::ArrayVec;
+use vg_model::start::ERROR_DROP;
 use vg_model::{Kind, Name};
-
-/// The number of the node that drops.
-pub const ERROR_DROP: u16 = 8;
 
 /// A node, and the nodes that its slots lead to, by slot number: at most two.
 #[derive(Drop)]
@@ -38,7 +36,7 @@ impl Entry for Node {
             arcs.push(*arc);
         }
         Node {
-            name: copied(&self.name),
+            name: self.name.copied(),
             kind: self.kind,
             arcs,
         }

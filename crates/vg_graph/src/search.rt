@@ -4,12 +4,13 @@ ghost use Rattle.std.specs.List.{AllByRecursion};
 ghost use Rattle.vg_graph.specs.Reach.{HasRoom, Reaches, IsFirst};
 
 use arrayvec::ArrayVec;
+use vg_model::limits::MOST_NODES;
 
-/// The nodes reached so far, of at most 64, and those of them whose arcs are still to be followed.
+/// The nodes reached so far, of at most [`MOST_NODES`], and those of them whose arcs are still to be followed.
 #[derive(Drop)]
 pub struct Search {
-    pub reached: [bool; 64],
-    pub waiting: ArrayVec<u16, 64>,
+    pub reached: [bool; MOST_NODES],
+    pub waiting: ArrayVec<u16, MOST_NODES>,
 }
 
 impl Search {
@@ -19,7 +20,7 @@ impl Search {
         ensures first { IsFirst result node }
     {
         let mut search = Search {
-            reached: [false; 64],
+            reached: [false; MOST_NODES],
             waiting: ArrayVec::new(),
         };
         search.reach(node);

@@ -1,17 +1,18 @@
 -- Where buffers are, at any moment.
-use Rattle.std.proofs.Common.{◌≡◌, ℕ, ◌+◌, ◌%◌, Bool, true, false, List, [], ◌∷◌, ◌++◌, length, map, refl, ap, arith, length-append}
+use Rattle.std.proofs.Common.{◌≡◌, ℕ, ◌+◌, ◌%◌, Bool, true, false, List, [], ◌∷◌, ◌++◌, length, refl, ap, arith, length-append}
 use Rattle.std.specs.Prelude.{Option, Some, None, ◌==◌, ◌&&◌, nat_lt, if◌then◌else◌}
 use Rattle.std.specs.List.{sum_by}
-use Rattle.std.proofs.lemmas.List.Sums.{sum_by-cons, sum_by-append}
+use Rattle.std.proofs.lemmas.List.Sums.{sum_by-cons}
 use Rattle.vg_model.specs.Leg.{Outcome, Sent, Dropped, Handed}
 use Rattle.vg_pool.specs.Contents.{Contents}
 use Rattle.vg_journeys.specs.Chains.{count_some}
-use Rattle.vg_journeys.specs.Trips.{Run, Arrival, Drawn, Taken, Trip, contents_after, onward_by, onward, logged_by, logged}
-use Rattle.vg_journeys.specs.Accounts.{HandoffFrame, Account, frame_arrivals, arrivals_in, draws_from, below, is_drawn}
+use Rattle.vg_journeys.specs.Trips.{Run, Arrival, Drawn, Trip, contents_after, onward_by, onward, logged_by, logged}
+use Rattle.vg_journeys.specs.Accounts.{HandoffFrame, Account, arrivals_in, draws_from, below, is_drawn}
 use Rattle.vg_journeys.specs.Moments.{trips_of, IsMoment, drawn_by_all, on_the_way}
 use Rattle.vg_journeys.proofs.FlowLemmas.{sum_same}
 use Rattle.vg_journeys.proofs.JoinLemmas.{sum_made, sum_none, sum_both, conserved}
-use Rattle.vg_journeys.proofs.KeptLemmas.{not_drawn, length_filter_map}
+use Rattle.vg_journeys.proofs.WorkerLemmas.{none_drawn_in, length_filter_map}
+use Rattle.vg_journeys.proofs.KeptLemmas.{not_drawn}
 
 -- a trip ends in the log, or goes on
 log_or_onward : (c : Contents) (outcome : Outcome) (refused : Option ℕ) → count_some (λ f. 1) (logged_by c outcome refused) + count_some (λ e. 1) (onward_by c outcome refused) ≡ 1
@@ -29,17 +30,6 @@ all_drawn_are number workers worker mark (bytes ∷ packets) = by (number % work
         ≡ sum_by (λ e. 1) (if b then Drawn number bytes ∷ draws_from (number + 1) workers worker mark packets else draws_from (number + 1) workers worker mark packets)
     by true rest = omega (arith, rest, sum_by-cons is_drawn (Drawn number bytes) (draws_from (number + 1) workers worker mark packets), sum_by-cons {X = Arrival} (λ e. 1) (Drawn number bytes) (draws_from (number + 1) workers worker mark packets))
     by false rest = rest
-
-none_drawn_in : (to : ℕ) (frames : List HandoffFrame) → sum_by is_drawn (arrivals_in to frames) ≡ 0
-none_drawn_in to [] = refl
-none_drawn_in to (frame ∷ frames) =
-    let rest = none_drawn_in to frames in
-    let here = packets_of frame.packets in
-    omega (arith, rest, here, sum_by-append is_drawn (frame_arrivals to frame) (arrivals_in to frames))
-  where
-    packets_of : (cs : List Contents) → sum_by is_drawn (map (Taken to frame.node) cs) ≡ 0
-    packets_of [] = refl
-    packets_of (c ∷ cs) = let more = packets_of cs in omega (arith, more, sum_by-cons is_drawn (Taken to frame.node c) (map (Taken to frame.node) cs))
 
 -- the buffers that caches gave out came back to caches, or are in frames on their way
 pub buffers_counted : (run : Run) (traced : ℕ) (at : ℕ → Account) (rest : ℕ → ℕ → List HandoffFrame) → IsMoment run traced at rest

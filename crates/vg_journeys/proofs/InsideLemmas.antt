@@ -4,11 +4,12 @@ use Rattle.std.specs.Prelude.{Some}
 use Rattle.std.specs.List.{AllByRecursion, flat_map}
 use Rattle.vg_model.specs.Edit.{most_nodes}
 use Rattle.vg_model.specs.Graph.{Graph}
+use Rattle.vg_model.specs.Growth.{Grows}
 use Rattle.vg_model.specs.Leg.{Outcome, Sent, Dropped, Handed}
 use Rattle.vg_model.specs.Journey.{end_of}
 use Rattle.vg_model.specs.Count.{trace}
 use Rattle.vg_journeys.specs.Chains.{AreChains}
-use Rattle.vg_journeys.specs.Ends.{IsEndIn, IsOutcomeIn, AreNodesOf, IsShort, Grows}
+use Rattle.vg_journeys.specs.Ends.{IsEndIn, IsOutcomeIn, AreNodesOf, IsShort}
 use Rattle.vg_journeys.specs.Trips.{Run, Drawn, legs_before, Trip, onward, trip_visits, IsTrip}
 use Rattle.vg_journeys.specs.Treks.{IsTrek, course_of, journey_of, drawn_from, journeys_of}
 use Rattle.vg_journeys.specs.Runs.{AllGrow, AreInside}

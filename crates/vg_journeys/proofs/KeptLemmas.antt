@@ -1,13 +1,14 @@
 -- What all workers have kept in the end.
 use Rattle.std.proofs.Common.{◌≡◌, ℕ, zero, suc, ◌+◌, ◌<◌, ◌≤◌, cond, List, [], ◌∷◌, ◌++◌, length, map, get_or, refl, sym, ap, ◌∙◌, arith}
 use Rattle.std.specs.Prelude.{Option, Some, None, ◌==◌, replicate, slice_index}
-use Rattle.std.specs.List.{sum_by, count_by, AllByRecursion, filter_map, flat_map}
+use Rattle.std.specs.List.{sum_by, count_by, AllByRecursion, flat_map}
 use Rattle.std.proofs.lemmas.List.Sums.{sum_by-cons, sum_by-append}
 use Rattle.std.proofs.lemmas.Grind.{flat_map-append}
 use Rattle.vg_model.specs.declared.fates.Fate.{Fate}
 use Rattle.vg_model.specs.Edit.{most_nodes, most_interfaces}
 use Rattle.vg_model.specs.Errors.{error_number}
 use Rattle.vg_model.specs.Leg.{Outcome, Sent, Dropped, Handed}
+use Rattle.vg_model.specs.Lawful.{last_worker}
 use Rattle.vg_model.specs.Journey as model
 use Rattle.vg_model.specs.Journey.{Journey, end_of}
 use Rattle.vg_model.specs.Count.{trace, is_drop, is_sent_on}
@@ -25,6 +26,7 @@ use Rattle.vg_journeys.proofs.JoinLemmas.{sum_made, sum_none}
 use Rattle.vg_journeys.proofs.EndLemmas.{all_trips}
 use Rattle.vg_journeys.proofs.HandLemmas.{over_queue}
 use Rattle.vg_journeys.proofs.JourneyLemmas.{journeys_of_trips}
+use Rattle.vg_journeys.proofs.WorkerLemmas.{length_filter_map, allocated_on, freed_on}
 
 -- nothing is counted or noted at first
 zeros : (n i : ℕ) → slice_index (replicate n 0) i ≡ 0
@@ -90,13 +92,6 @@ drawn_length number (bytes ∷ packets) =
     let rest = drawn_length (number + 1) packets in
     omega (arith, rest, sum_by-cons is_drawn (Drawn number bytes) (drawn_from (number + 1) packets))
 
-pub length_filter_map : {X Y : Type 0} (h : X → Option Y) (xs : List X) → length (filter_map h xs) ≡ sum_by (λ x. count_some (λ y. 1) (h x)) xs
-length_filter_map h xs = sym (ones (filter_map h xs)) ∙ sum_filter_map (λ y. 1) h xs
-  where
-    ones : {Y : Type 0} (ys : List Y) → sum_by (λ y. 1) ys ≡ length ys
-    ones [] = refl
-    ones (y ∷ ys) = let rest = ones ys in omega (arith, rest, sum_by-cons (λ y. 1) y ys)
-
 ones : {Y : Type 0} (ys : List Y) → sum_by (λ y. 1) ys ≡ length ys
 ones [] = refl
 ones (y ∷ ys) = let rest = ones ys in omega (arith, rest, sum_by-cons (λ y. 1) y ys)
@@ -109,15 +104,16 @@ kept_in_the_end run traced at rest moment some over =
     let all = all_trips run traced at rest moment some over in
     let found = journeys_of_trips run trips all in
     let js : List Journey = found.js in
+    let logs : (count : Fate → ℕ) → sum_by (λ w. sum_by count (at w).log) ws ≡ sum_by count (model.fates js) = λ count.
+    sym (sum_made run traced at (λ t. count_some count (logged t)) (λ w. sum_by count (at w).log)
+    (λ w stand. sym (ap (sum_by count) stand.adds.log ∙ sum_filter_map count logged stand.trips)) ws moment.stand)
+    ∙ found.fates_are count in
     record {
       choices = map choice_of found.treks;
       js = js;
       lawful = found.lawful;
       inside = found.inside;
-      logs = λ count.
-          sym (sum_made run traced at (λ t. count_some count (logged t)) (λ w. sum_by count (at w).log)
-          (λ w stand. sym (ap (sum_by count) stand.adds.log ∙ sum_filter_map count logged stand.trips)) ws moment.stand)
-          ∙ found.fates_are count;
+      logs = logs;
       sents = λ count.
           sym (sum_made run traced at (λ t. count_some count (sent_by_trip t)) (λ w. sum_by count (at w).sent)
           (λ w stand. sym (ap (sum_by count) stand.adds.sent ∙ sum_filter_map count sent_by_trip stand.trips)) ws moment.stand)
@@ -158,4 +154,6 @@ kept_in_the_end run traced at rest moment some over =
           let once = found.fates_are (λ f. 1) in
           let many = found.as_many in
           omega (arith, made, once, many, sum_map (λ f. 1) model.fate_of js, ones js));
+      allocated_by = λ w h. allocated_on moment over w h;
+      freed_by = λ w h. freed_on moment (model.fates js) logs w h ∙ sum_map (λ (f : Fate). cond (last_worker f.legs == w) 1 0) model.fate_of js;
     }

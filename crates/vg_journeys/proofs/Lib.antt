@@ -9,6 +9,7 @@ pub mod HandLemmas
 pub mod EndLemmas
 pub mod InsideLemmas
 pub mod JourneyLemmas
+pub mod WorkerLemmas
 pub mod KeptLemmas
 pub mod LegFactLemmas
 pub mod MatchLemmas

@@ -12,12 +12,13 @@ use Rattle.vg_journeys.proofs.AccountLemmas.{all_append}
 use Rattle.vg_journeys.proofs.LegInLemmas.{leg_from_in, first_leg_in, short_bytes, drop_within}
 use Rattle.vg_model.specs.Valid.{IsValid, IsKindSet}
 use Rattle.vg_model.specs.Leg.{Outcome, Sent, Dropped, Handed, Way}
+use Rattle.vg_pool.specs.Contents.{Contents}
 use Rattle.vg_model.specs.Count.{is_drop, is_sent_on}
 use Rattle.vg_counters.specs.Notes.{nodes_of}
 use Rattle.vg_journeys.specs.Ended.{Ended, ended_by, drop_visits, counted_visits}
 use Rattle.vg_journeys.specs.Chains.{count_some}
 use Rattle.vg_journeys.specs.LegFacts.{HandsOver}
-use Rattle.vg_journeys.specs.Trips.{Run, Arrival, Drawn, Taken, number_of, legs_before, Trip, onward, logged, sent_by_trip, last_visits, trip_visits, noted_of, is_of, IsHandover, IsTrip}
+use Rattle.vg_journeys.specs.Trips.{Run, Arrival, Drawn, Taken, number_of, legs_before, Trip, contents_after, onward, logged, sent_by_trip, last_visits, trip_visits, noted_of, is_of, IsHandover, IsTrip}
 use Rattle.vg_journeys.specs.Treks.{IsRefusal}
 use Rattle.vg_journeys.specs.Accounts.{Account, frames_with, is_drawn, Adds}
 use Rattle.vg_journeys.specs.Counts.{IsCountIn}
@@ -118,6 +119,7 @@ pub record IsTripAt (run : Run) (place : Place) (s : Settled) (e : Arrival) (t :
   pub logged_is : logged t ≡ settled_log s
   pub sent_is : sent_by_trip t ≡ settled_sent s
   pub visits_are : trip_visits t ≡ visits_at run place e ++ settled_visits s
+  pub contents : contents_after t ≡ s.ended.contents
   pub outcome : t.way.outcome ≡ s.ended.outcome
   pub refused : t.refused ≡ s.refused
   pub number : s.ended.contents.packet.number ≡ number_of e
@@ -141,6 +143,7 @@ trip_of run place s e kinds valid few some is_graph may is be =
         sent_is = ap settled_sent settled;
         visits_are = visits_split way s.refused ∙ ap (λ l. l ++ refusal_visits way.outcome s.refused) (ap (λ o. unwrap_or (option_map counted_visits o) []) (sym may.is_way))
             ∙ ap (λ (s : Settled). visits_at run place e ++ settled_visits s) settled;
+        contents = ap (λ (ended : Ended). ended.contents) end;
         outcome = ap (λ (ended : Ended). ended.outcome) end;
         refused = refl;
         number = ap (λ (ended : Ended). ended.contents.packet.number) (sym end) ∙ leg.0;
@@ -330,10 +333,11 @@ all_unit [] = tt
 all_unit (x ∷ xs) = (tt, all_unit xs)
 
 -- a turn adds trips, each under its own generation; what holds of the outcome and the refusal of each packet that it settled holds of
--- each of them
+-- each of them; and so does what is counted by these and by the packet as it is behind its leg
 pub turn_adds_with : (P : Outcome → Option ℕ → Type 0) (run : Run) (place : Place) (arrivals : List Arrival) (old new : Account) → IsKindSet run.visit → IsValid place.graph → length place.graph.nodes ≤ most_nodes → 0 < run.workers
     → slice_get run.graphs place.generation ≡ Some place.graph → (turn : IsTurn run place arrivals old new) → AllByRecursion (λ s. P s.ended.outcome s.refused) turn.settled
     → (trips : List Trip) × Adds run old new trips × AllByRecursion (λ t. t.generation ≡ place.generation) trips × AllByRecursion (λ t. P t.way.outcome t.refused) trips
+    × ((count : Contents → Outcome → Option ℕ → ℕ) → sum_by (λ t. count (contents_after t) t.way.outcome t.refused) trips ≡ sum_by (λ s. count s.ended.contents s.ended.outcome s.refused) turn.settled)
 turn_adds_with P run place arrivals old new kinds valid small some is_graph turn holds =
     let found = matched (λ (s : Settled). s.ended) (end_at run place) (MayArrive run place) same_ended same_ended_decides
     (λ e may. (ended_by (legs_with place e) may.way, ap (option_map (ended_by (legs_with place e))) may.is_way)) turn.settled arrivals turn.may turn.same in
@@ -405,6 +409,12 @@ turn_adds_with P run place arrivals old new kinds valid small some is_graph turn
       each_at run place (λ s. P s.ended.outcome s.refused) (λ t. P t.way.outcome t.refused)
           (λ s e t p is. subst (λ o. P o t.refused) (sym is.outcome) (subst (λ r. P s.ended.outcome r) (sym is.refused) p)) pairs ts
           (all_firsts (λ s. P s.ended.outcome s.refused) pairs (subst (AllByRecursion (λ s. P s.ended.outcome s.refused)) (sym firsts) holds)) are,
+      λ count.
+          let l = sums_at run place (λ t. count (contents_after t) t.way.outcome t.refused) (λ p. count p.0.ended.contents p.0.ended.outcome p.0.refused)
+          (λ p t is. ap (λ c. count c t.way.outcome t.refused) is.contents ∙ ap (λ o. count p.0.ended.contents o t.refused) is.outcome ∙ ap (count p.0.ended.contents p.0.ended.outcome) is.refused) pairs ts are in
+          let k = sum_firsts pairs (λ s. count s.ended.contents s.ended.outcome s.refused) in
+          let f = ap (sum_by (λ s. count s.ended.contents s.ended.outcome s.refused)) firsts in
+          omega (arith, l, k, f),
     )
 
 -- under its own generation
@@ -428,4 +438,5 @@ pub turn_adds_counted : (run : Run) (place : Place) (arrivals : List Arrival) (o
     → (trips : List Trip) × Adds run old new trips × AllByRecursion (λ t. t.generation ≡ place.generation) trips
     × AllByRecursion (λ t. IsCountIn run.slots lossless old.put new.put t.way.outcome t.refused) trips
 turn_adds_counted run place arrivals old new lossless kinds valid small some is_graph turn counts =
-    turn_adds_with (IsCountIn run.slots lossless old.put new.put) run place arrivals old new kinds valid small some is_graph turn counts
+    let found = turn_adds_with (IsCountIn run.slots lossless old.put new.put) run place arrivals old new kinds valid small some is_graph turn counts in
+    (found.0, found.1, found.2, found.3)

@@ -7,7 +7,8 @@ use Rattle.vg_model.specs.Count.{trace}
 use Rattle.vg_model.specs.Lawful.{AreLawfulChoices, hands, hands_in}
 use Rattle.vg_model.specs.Edit.{most_nodes}
 use Rattle.vg_model.specs.Graph.{Graph}
-use Rattle.vg_journeys.specs.Ends.{IsEndIn, AreNodesOf, IsShort, Grows}
+use Rattle.vg_model.specs.Growth.{Grows}
+use Rattle.vg_journeys.specs.Ends.{IsEndIn, AreNodesOf, IsShort}
 use Rattle.vg_counters.specs.Notes.{all_legs}
 use Rattle.vg_journeys.specs.Chains.{count_some, IsFlow}
 use Rattle.vg_journeys.specs.Trips.{Run, Trip, onward, logged, sent_by_trip, trip_visits, noted_of, is_of, IsTrip}

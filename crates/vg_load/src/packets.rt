@@ -42,16 +42,10 @@ pub fn load_capture(alloc: Global, seed: u64, packets: u32) -> Result<Capture, M
     let mut words = SplitMix64::seed_from_u64(seed);
     let mut made = Vec::new(alloc);
     for number in 0..packets {
-        let Ok(packet) = packet(alloc, number, words.next_word()) else {
-            return Err(Memory);
-        };
-        let Ok(()) = made.push(packet) else {
-            return Err(Memory);
-        };
+        let packet = packet(alloc, number, words.next_word())?;
+        made.push(packet)?;
     }
-    let Ok(packets) = Packets::of(alloc, made.as_slice()) else {
-        return Err(Memory);
-    };
+    let packets = Packets::of(alloc, made.as_slice())?;
     Ok(Capture {
         nanos: false,
         snaplen: 262_144,

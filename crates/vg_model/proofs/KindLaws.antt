@@ -1,4 +1,4 @@
--- The visits of the IPv4 kinds keep the laws of a set of kinds.
+-- For `ip4_kinds_are_lawful`: the visits of the IPv4 kinds keep the laws of a set of kinds.
 use Rattle.std.proofs.Common.{◌≡◌, ℕ, ◌<◌, ◌≤◌, Bool, true, false, not, ◌==◌, length, refl, sym, subst, arith}
 use Rattle.std.specs.Prelude.{Option, Some, None, option_map, option_and_then, slice_get, unwrap_or, if◌then◌else◌, nat_lt}
 use Rattle.std.proofs.lemmas.Bool.{cond_both, ltb-true, not-false}
@@ -16,7 +16,8 @@ use Rattle.vg_model.specs.Graph.{Graph, kind_at, slots}
 use Rattle.vg_model.specs.Packet.{Packet}
 use Rattle.vg_model.specs.Route.{best_route}
 use Rattle.vg_model.specs.Hash.{flow_hash}
-use Rattle.vg_model.specs.Visit.{next, dropped, datagram, header_fault, ethernet_input, forwarded, ip4_lookup, rewritten, sent_over, over_interface, over_adjacency, ip4_rewrite, interface_output, transmit_interface, adjacency_of, visit_of, ip4_visit, destination, time_to_live, total_len, ethernet_len, is_foreign}
+use Rattle.vg_model.specs.Visit.{next, dropped, datagram, header_fault, ethernet_input, forwarded, ip4_lookup, rewritten, sent_over, over_interface, over_adjacency, ip4_rewrite, interface_output, transmit_interface}
+use Rattle.vg_model.specs.Visit.{adjacency_of, visit_of, ip4_visit, destination, time_to_live, total_len, ethernet_len, is_foreign}
 use Rattle.vg_model.specs.Bytes.{number16_at}
 use Rattle.vg_model.specs.Valid.{IsValid, IsPacket, IsVisitOf, IsStepOf, IsKindSet, IsMac}
 use Rattle.vg_model.proofs.LegEnds.{all_at}

@@ -1,5 +1,6 @@
--- A rewritten frame still passes the header's checks.
-use Rattle.std.proofs.Common.{◌≡◌, ℕ, zero, suc, ◌+◌, ◌-◌, ◌*◌, ◌/◌, ◌%◌, ◌<◌, ◌≤◌, Bool, true, false, not, ◌||◌, ◌==◌, List, [], ◌∷◌, ◌++◌, length, take, drop, refl, sym, ap, ◌∙◌, arith, length-append, length-drop, length-take-le, take-append-drop, append_assoc}
+-- For `ip4_kinds_are_lawful`, and for the rewrite of vg_packet and vg_nodes: a rewritten frame still passes the header's checks.
+use Rattle.std.proofs.Common.{◌≡◌, ℕ, zero, suc, ◌+◌, ◌-◌, ◌*◌, ◌/◌, ◌%◌, ◌<◌, ◌≤◌, Bool, true, false, not, ◌||◌, ◌==◌, List, [], ◌∷◌, ◌++◌, length, take, drop}
+use Rattle.std.proofs.Common.{refl, sym, ap, ◌∙◌, arith, length-append, length-drop, length-take-le, take-append-drop, append_assoc}
 use Rattle.std.specs.Prelude.{Option, Some, None, if◌then◌else◌, nat_lt, slice_index, slice_set}
 use Rattle.std.proofs.Math.Seq.{take-append_seam, drop-append_seam, drop-append-add}
 use Rattle.std.proofs.lemmas.List.{drop-drop}
@@ -137,7 +138,9 @@ length-lowered h (twelve b0 b1 b2 b3 b4 b5 b6 b7 b8 b9 b10 b11 rest) = refl
 
 -- a lowered header is of bytes
 pub bytes_lowered : (h : List ℕ) → Twelve h → AreBytes h → AreBytes (lowered h)
-bytes_lowered h (twelve b0 b1 b2 b3 b4 b5 b6 b7 b8 b9 b10 b11 rest) b = (b.0, (b.1.0, (b.1.1.0, (b.1.1.1.0, (b.1.1.1.1.0, (b.1.1.1.1.1.0, (b.1.1.1.1.1.1.0, (b.1.1.1.1.1.1.1.0, (omega (arith, b.1.1.1.1.1.1.1.1.0), (b.1.1.1.1.1.1.1.1.1.0, (omega arith, (omega arith, b.1.1.1.1.1.1.1.1.1.1.1.1))))))))))))
+bytes_lowered h (twelve b0 b1 b2 b3 b4 b5 b6 b7 b8 b9 b10 b11 rest) b =
+    let behind = b.1.1.1.1.1.1.1 in
+    (b.0, (b.1.0, (b.1.1.0, (b.1.1.1.0, (b.1.1.1.1.0, (b.1.1.1.1.1.0, (b.1.1.1.1.1.1.0, (behind.0, (omega (arith, behind.1.0), (behind.1.1.0, (omega arith, (omega arith, behind.1.1.1.1.1))))))))))))
 
 -- a lowered header verifies
 lowered_verifies : (h : List ℕ) → Twelve h → AreBytes h → header_sum (lowered h) ≡ 65535

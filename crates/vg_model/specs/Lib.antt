@@ -12,6 +12,7 @@ pub mod Leg
 pub mod Valid
 pub mod Start
 pub mod Edit
+pub mod Growth
 pub mod Generations
 pub mod Journey
 pub mod Lawful

@@ -2,6 +2,7 @@
 ghost use Rattle.std.specs.Prelude.{◌≡◌, ◌<◌, ◌≤◌, [], ◌∷◌, ◌++◌, length};
 
 use crate::kinds::DropError;
+use crate::limits::MOST_LEGS;
 use arrayvec::ArrayVec;
 use std::marker::Model;
 
@@ -25,7 +26,7 @@ pub struct Leg {
 
 /// The legs of a packet, in order: at most four. The fate of a packet has at least one.
 #[derive(Drop)]
-pub struct Legs(ArrayVec<Leg, 4>);
+pub struct Legs(ArrayVec<Leg, MOST_LEGS>);
 
 impl Model for Legs {
     ghost use Rattle.std.specs.Prelude.{List, length, ◌≤◌};

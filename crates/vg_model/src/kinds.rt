@@ -45,6 +45,9 @@ pub enum Kind {
     Pass,
 }
 
+/// How many kinds of [`DropError`] there are.
+pub const ERRORS: usize = 19;
+
 /// Why a packet was dropped.
 #[derive(Clone, Copy, Debug, PartialEq, Eq)]
 pub enum DropError {
@@ -151,7 +154,7 @@ impl Kind {
 
 impl DropError {
     /// All errors, in their order.
-    pub const ALL: [DropError; 19] = [
+    pub const ALL: [DropError; ERRORS] = [
         DropError::Short,
         DropError::TooLong,
         DropError::UnknownType,

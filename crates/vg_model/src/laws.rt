@@ -1,12 +1,17 @@
 //! Laws of the definitions: each is a function whose contract is the law.
 ghost use Rattle.std.specs.Prelude.{◌≡◌, ◌<◌, ℕ, List, length, Some, slice_get};
 ghost use Rattle.vg_model.specs.declared.kinds.DropError.{DropError};
+ghost use Rattle.vg_model.specs.declared.kinds.TheConstants.{ERRORS};
 ghost use Rattle.vg_model.specs.declared.kinds.TheConstants.DropError.{ALL};
+ghost use Rattle.vg_model.specs.declared.limits.TheConstants.{MOST_NODES, MOST_INTERFACES, MOST_ADJACENCIES, MOST_ROUTES, LONGEST_PACKET, MOST_LEGS};
+ghost use Rattle.vg_model.specs.declared.start.TheConstants.{PG_INPUT, HANDOFF_DEQUEUE, ERROR_DROP, FIRST_SLOT};
 ghost use Rattle.vg_model.specs.Errors.{all_errors, error_number};
-ghost use Rattle.vg_model.specs.Graph.{Graph, kind_at};
+ghost use Rattle.vg_model.specs.Graph.{Graph, kind_at, pg_input, handoff_dequeue, error_drop};
+ghost use Rattle.vg_model.specs.Edit.{most_nodes, most_interfaces, most_adjacencies, most_routes};
+ghost use Rattle.vg_model.specs.Journey.{longest_packet};
 ghost use Rattle.vg_model.specs.Packet.{Packet};
 ghost use Rattle.vg_model.specs.Visit.{Visit, ip4_visit};
-ghost use Rattle.vg_model.specs.Leg.{Way, leg};
+ghost use Rattle.vg_model.specs.Leg.{Way, leg, most_legs, first_slot};
 ghost use Rattle.vg_model.specs.Start.{start_graph};
 ghost use Rattle.vg_model.specs.Header.{header_sum, word_sum, folded};
 ghost use Rattle.vg_model.specs.Valid.{IsValid, IsPacket, IsKindSet, IsTarget, AreBytes};
@@ -37,4 +42,23 @@ pub fn sum_may_be_folded_at_the_end()
 pub fn errors_are_in_order()
     ensures all { ALL ≡ all_errors }
     ensures numbered { (error : DropError) → slice_get all_errors (error_number error) ≡ Some error }
+{}
+
+/// The limits in the code are those of the definitions.
+pub fn limits_are_those_defined()
+    ensures nodes { MOST_NODES ≡ most_nodes }
+    ensures interfaces { MOST_INTERFACES ≡ most_interfaces }
+    ensures adjacencies { MOST_ADJACENCIES ≡ most_adjacencies }
+    ensures routes { MOST_ROUTES ≡ most_routes }
+    ensures bytes { LONGEST_PACKET ≡ longest_packet }
+    ensures legs { MOST_LEGS ≡ most_legs }
+    ensures errors { ERRORS ≡ length all_errors }
+{}
+
+/// The nodes of the start graph with numbers of their own in the code have those of the definitions.
+pub fn start_numbers_are_those_defined()
+    ensures source { PG_INPUT ≡ pg_input }
+    ensures dequeue { HANDOFF_DEQUEUE ≡ handoff_dequeue }
+    ensures drop { ERROR_DROP ≡ error_drop }
+    ensures slot { FIRST_SLOT ≡ first_slot }
 {}

@@ -52,6 +52,14 @@ impl Name {
         }
     }
 
+    /// The same name once more. It takes no memory.
+    pub fn copied(&self) -> Name
+        ensures same { result ≡ self.now }
+        ensures name { IsName result }
+    {
+        Name(self.0)
+    }
+
     /// The name as text.
     pub fn as_str(&self) -> &str
         ensures { result.now ≡ self.now }

@@ -4,7 +4,7 @@ ghost use Rattle.vg_frame.specs.Pending.{frame_size};
 
 use std::alloc::{AllocError, Global};
 use std::marker::Model;
-use vg_frame::FRAME_SIZE;
+use vg_model::limits::FRAME_SIZE;
 
 /// A list of buffer indexes, each with a value: at most as many as a frame has. Its room is taken as it is made.
 #[derive(Drop)]

@@ -3,7 +3,7 @@ ghost use Rattle.std.specs.Prelude.{◌≡◌, IfOk};
 ghost use Rattle.vg_nodes.specs.Sorting.{HasRoom};
 
 use crate::entries::Entries;
-use std::alloc::{AllocError, Global};
+use std::alloc::Global;
 use vg_model::{DropError, Memory, Step};
 
 /// Packets that go on, each with the slot of the node over which it does.
@@ -36,15 +36,6 @@ impl Sorted {
     ///
     /// [`Memory`] where memory runs out.
     pub fn new(alloc: Global) -> Result<Sorted, Memory>
-        ensures { IfOk result (λ sorted. sorted ≡ nothing_sorted) }
-    {
-        match Sorted::made(alloc) {
-            Ok(sorted) => Ok(sorted),
-            Err(_) => Err(Memory),
-        }
-    }
-
-    fn made(alloc: Global) -> Result<Sorted, AllocError>
         ensures { IfOk result (λ sorted. sorted ≡ nothing_sorted) }
     {
         Ok(Sorted {

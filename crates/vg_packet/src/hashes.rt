@@ -3,22 +3,17 @@ ghost use Rattle.std.specs.Prelude.{◌≡◌};
 ghost use Rattle.vg_model.specs.Hash.{flow_hash as hash_of_flow, mixed as mixed_key, hash_key};
 
 use crate::fields::{u16_at, u32_at};
+use crate::headers::{DESTINATION, ETHERNET_LEN, ETHERTYPE, ETHERTYPE_IPV4, LEAST_HEADER, SOURCE};
 use vg_model::HashKind;
 
-/// The EtherType of IPv4.
-const ETHERTYPE_IPV4: u16 = 0x0800;
-
-/// Where a frame's EtherType stands.
-const ETHERTYPE: usize = 12;
-
 /// Where the source address of a frame's IPv4 header stands.
-const SOURCE: usize = 26;
+const SOURCE_IN_FRAME: usize = ETHERNET_LEN + SOURCE;
 
 /// Where the destination address of a frame's IPv4 header stands.
-const DESTINATION: usize = 30;
+const DESTINATION_IN_FRAME: usize = ETHERNET_LEN + DESTINATION;
 
 /// The length of a frame that ends behind the destination address.
-const ADDRESSES_END: usize = 34;
+const ADDRESSES_END: usize = ETHERNET_LEN + LEAST_HEADER;
 
 /// The hash of an Ethernet frame: that of the source and destination address, or of one of them, as
 /// `kind` says. A frame of another type, or with fewer than 34 bytes, has the hash 0. With
@@ -29,7 +24,11 @@ pub fn flow_hash(kind: HashKind, frame: &[u8]) -> u32
     if frame.len() < ADDRESSES_END || u16_at(frame, ETHERTYPE) != ETHERTYPE_IPV4 {
         return 0;
     }
-    mixed(key_of(kind, u32_at(frame, SOURCE), u32_at(frame, DESTINATION)))
+    mixed(key_of(
+        kind,
+        u32_at(frame, SOURCE_IN_FRAME),
+        u32_at(frame, DESTINATION_IN_FRAME),
+    ))
 }
 
 /// What is hashed of the addresses.

@@ -17,13 +17,16 @@ pub const ETHERTYPE: usize = 12;
 pub const ETHERTYPE_IPV4: u16 = 0x0800;
 
 /// The length of an IPv4 header without options.
-const LEAST_HEADER: usize = 20;
+pub const LEAST_HEADER: usize = 20;
 
 /// Where the total length stands in an IPv4 header.
 const TOTAL_LENGTH: usize = 2;
 
+/// Where the source stands in an IPv4 header.
+pub const SOURCE: usize = 12;
+
 /// Where the destination stands in an IPv4 header.
-const DESTINATION: usize = 16;
+pub const DESTINATION: usize = 16;
 
 /// What stands behind the Ethernet header: the IPv4 datagram, and any padding.
 pub fn datagram(frame: &[u8]) -> &[u8]

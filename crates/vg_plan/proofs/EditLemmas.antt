@@ -1,4 +1,4 @@
--- Edits of a whole graph, by its lists and its table of routes.
+-- For `edit_graph`, `set_route` and `remove_route` of a master: edits of a whole graph, by its lists and its table of routes.
 use Rattle.std.proofs.Common.{◌≡◌, ℕ, zero, suc, ◌≤◌, ◌||◌, ◌==◌, Bool, true, false, List, [], ◌∷◌, length, refl, sym, ap, subst, ◌∙◌, inl, inr, arith}
 use Rattle.std.specs.Prelude.{Option, Some, None, ok_or, Result, Ok, Err, IfErr, IsErr, IsOk, MatchOption, OnErr, IfOk, remove, replicate, is_some, slice_get, slice_set}
 use Rattle.std.specs.List.{AllByRecursion, list_any}
@@ -15,7 +15,8 @@ use Rattle.vg_model.specs.declared.routes.RouteWord.{RouteWord}
 use Rattle.vg_model.specs.declared.routes.RouteWord.TheVariants as words
 use Rattle.vg_model.specs.Graph.{Graph, Node, next_nodes, slots, error_drop}
 use Rattle.vg_model.specs.Valid.{IsRouteWithin}
-use Rattle.vg_model.specs.Edit.{Cause, Edited, ◌>>=◌, most_interfaces, most_nodes, most_adjacencies, most_routes, node_named, interface_named, adjacency_named, place_of, placed, refused_if, is_source, DoubleName, UnknownNode, UnknownSlot, BadTarget, Cycle, UnknownInterface, leads, with_interface, with_node, with_arc, with_adjacency, UnknownAdjacency, target_of, route_place, apply}
+use Rattle.vg_model.specs.Edit.{Cause, Edited, ◌>>=◌, most_interfaces, most_nodes, most_adjacencies, most_routes, node_named, interface_named, adjacency_named, place_of, placed, refused_if, is_source}
+use Rattle.vg_model.specs.Edit.{DoubleName, UnknownNode, UnknownSlot, BadTarget, Cycle, UnknownInterface, leads, with_interface, with_node, with_arc, with_adjacency, UnknownAdjacency, target_of, route_place, apply}
 use Rattle.vg_script.specs.declared.errors.ScriptCause.{ScriptCause}
 use Rattle.vg_script.specs.declared.errors.ScriptCause.TheVariants as script_causes
 use Rattle.vg_script.specs.Reading.{refused}

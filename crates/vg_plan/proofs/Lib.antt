@@ -1,5 +1,6 @@
 pub mod EditLemmas
 pub mod GenerationLemmas
+pub mod GrowthLemmas
 pub mod CountLemmas
 pub mod WindowLemmas
 pub mod TimesLemmas

@@ -42,9 +42,7 @@ impl<'a> Generations<'a> {
     pub fn of(alloc: Global, plan: &'a Plan) -> Result<Generations<'a>, Memory>
         ensures { IfOk result (λ generations. generations ≡ plan.now.graphs) }
     {
-        let Ok(runs) = in_order(alloc, plan.script()) else {
-            return Err(Memory);
-        };
+        let runs = in_order(alloc, plan.script())?;
         Ok(Generations {
             runs,
             made: 0,

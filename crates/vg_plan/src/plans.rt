@@ -137,10 +137,8 @@ impl Plan {
     pub fn book(&self, alloc: Global, capture: &Capture) -> Result<Book, Memory>
         ensures { IfOk result (λ book. book ≡ windows self.now capture.now) }
     {
-        match self.limits(alloc, capture) {
-            Ok(limits) => Ok(Book::of(self, limits)),
-            Err(_) => Err(Memory),
-        }
+        let limits = self.limits(alloc, capture)?;
+        Ok(Book::of(self, limits))
     }
 }
 

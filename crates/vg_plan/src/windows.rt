@@ -3,7 +3,8 @@ ghost use Rattle.std.specs.Prelude.{◌≡◌, ℕ, ◌+◌, ◌<◌, ◌≤◌,
 ghost use Rattle.vg_plan.specs.Front.{stamp_in, IsFront};
 ghost use Rattle.vg_plan.specs.Times.{latest_event};
 
-use vg_capture::{MOST_PACKETS, Packets};
+use vg_capture::Packets;
+use vg_model::limits::MOST_PACKETS;
 
 /// The time stamp that an event is due at: so long after the first packet's, in whole microseconds.
 pub fn due(packets: &Packets, nanos: bool, event: u64) -> u64

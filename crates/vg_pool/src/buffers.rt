@@ -5,10 +5,9 @@ ghost use Rattle.vg_model.specs.Valid.{AreBytes};
 use crate::stacks::BufferStack;
 use std::alloc::{AllocError, Global};
 use std::marker::Model;
+use vg_model::limits::LONGEST_PACKET;
+use vg_model::lists::know_bytes;
 use vg_model::{Leg, Legs};
-
-/// The most bytes of a packet in a buffer.
-pub const LONGEST_PACKET: usize = 2048;
 
 // The memory of a buffer. The metadata stands in front, next to the packet's first bytes.
 #[cycle(stack)]
@@ -199,11 +198,4 @@ impl Buffer {
     {
         self.fill(0, &[]);
     }
-}
-
-// Each byte is below 256.
-fn know_bytes(bytes: &[u8])
-    ensures { AreBytes bytes.now }
-{
-    let _ = bytes;
 }

@@ -3,6 +3,7 @@ ghost use Rattle.std.specs.Prelude.{◌≡◌, ◌+◌, ◌-◌, ◌^◌, ◌<�
 ghost use Rattle.vg_model.specs.PoolBook.{IsCacheBook, empty_cache};
 ghost use Rattle.vg_pool.specs.Contents.{nothing};
 ghost use Rattle.vg_pool.specs.Moves.{most_cached};
+ghost use Rattle.vg_pool.specs.Settlement.{counts_of};
 
 use crate::buffers::Buffer;
 use std::alloc::{AllocError, Global};
@@ -11,6 +12,15 @@ use std::sync::ledger::{Ledger, Share};
 
 /// The most buffers of a cache.
 pub const MOST_CACHED: usize = 2560;
+
+/// How many buffers `alloc` gave out of a cache, and how many `free` took into it.
+#[derive(Clone, Copy, Debug, Default)]
+pub struct CacheCounts {
+    /// How many `alloc` gave out.
+    pub allocated: u64,
+    /// How many `free` took in.
+    pub freed: u64,
+}
 
 /// The buffers that one worker takes from and gives to, and its shares of the two ledgers of its pool.
 #[derive(Drop)]
@@ -90,11 +100,14 @@ impl<T: Ledger, G: Ledger> Cache<T, G> {
         self.freed += 1;
     }
 
-    // How many buffers `alloc` gave.
-    pub(crate) fn allocated(&self) -> u64
-        ensures { result ≡ self.now.allocated }
+    // How many buffers `alloc` gave and `free` took.
+    pub(crate) fn counts(&self) -> CacheCounts
+        ensures { result ≡ counts_of self.now }
     {
-        self.allocated
+        CacheCounts {
+            allocated: self.allocated,
+            freed: self.freed,
+        }
     }
 
     // Its shares of the two ledgers. Buffers that it still has are lost.

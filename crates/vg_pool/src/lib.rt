@@ -23,8 +23,8 @@ pub mod settled;
 pub mod stacks;
 
 pub use books::PoolLedger;
-pub use buffers::{Buffer, LONGEST_PACKET};
-pub use caches::{Cache, MOST_CACHED};
+pub use buffers::Buffer;
+pub use caches::{Cache, CacheCounts, MOST_CACHED};
 pub use locked::LockedPool;
 pub use pools::{LOT, MOST_KEPT, MOST_TAKEN, Pool};
 pub use settled::Settled;

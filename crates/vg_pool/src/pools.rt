@@ -8,6 +8,7 @@ use crate::books::PoolLedger;
 use crate::buffers::Buffer;
 use crate::caches::{Cache, MOST_CACHED};
 use crate::settled::Settled;
+use arrayvec::ArrayVec;
 use std::alloc::{AllocError, Global};
 use std::marker::Model;
 use std::sync::ledger::{Blank, Book, Ledger, Share};
@@ -49,7 +50,7 @@ impl<T: PoolLedger, G: Ledger> Model for Pool<T, G> {
     ghost invariant = { λ p. (p.total ≡ T.total) × (p.total < 2 ^ 32) × (p.taken_so_far ≡ p.taken.total)
         × (vec_len p.list ≤ p.total) × (p.total ≤ vec_capacity p.list)
         × (vec_len p.list + p.taken.total ≡ p.total + p.given.total)
-        × (p.no_taken.parts ≡ 0) × (p.no_given.parts ≡ 0) };
+        × (p.no_taken.parts ≡ 0) × (p.no_given.parts ≡ 0) × (T.parts ≤ 8) };
 }
 
 impl<T: PoolLedger, G: Ledger> Pool<T, G> {
@@ -67,25 +68,6 @@ impl<T: PoolLedger, G: Ledger> Pool<T, G> {
         given: Blank,
     ) -> Result<(Pool<T, G>, Vec<Cache<T, G>>), Memory>
         requires caches { (1 ≤ caches) × (caches ≤ 8) }
-        requires total { total ≡ T.total }
-        requires taken { (taken.name ≡ T.name) × (taken.parts ≡ T.parts) × (taken.parts ≡ caches) }
-        requires given { (given.name ≡ G.name) × (given.parts ≡ G.parts) × (given.parts ≡ caches) }
-        ensures pool { IfOk result (λ made. made.0 ≡ record { len = total; taken = 0; given = 0; settled = None }) }
-        ensures caches { IfOk result (λ made. made.1.items ≡ replicate caches empty_cache) }
-    {
-        match Pool::made(alloc, total, caches, taken, given) {
-            Ok(made) => Ok(made),
-            Err(_) => Err(Memory),
-        }
-    }
-
-    fn made(
-        alloc: Global,
-        total: u32,
-        caches: usize,
-        taken: Blank,
-        given: Blank,
-    ) -> Result<(Pool<T, G>, Vec<Cache<T, G>>), AllocError>
         requires total { total ≡ T.total }
         requires taken { (taken.name ≡ T.name) × (taken.parts ≡ T.parts) × (taken.parts ≡ caches) }
         requires given { (given.name ≡ G.name) × (given.parts ≡ G.parts) × (given.parts ≡ caches) }
@@ -190,9 +172,12 @@ impl<T: PoolLedger, G: Ledger> Pool<T, G> {
         let mut taken = self.no_taken.empty();
         let mut given = self.no_given.empty();
         let mut allocated = 0_u64;
+        let mut counts = ArrayVec::new();
         for mut cache in caches {
             self.give(cache.len(), &mut cache);
-            allocated = allocated.saturating_add(cache.allocated());
+            let count = cache.counts();
+            allocated = allocated.saturating_add(count.allocated);
+            counts.push(count);
             let (cache_taken, cache_given) = cache.into_shares();
             taken.merge(cache_taken);
             given.merge(cache_given);
@@ -200,7 +185,7 @@ impl<T: PoolLedger, G: Ledger> Pool<T, G> {
         // The books now say that every buffer had its place in the list.
         self.taken.audit(&mut taken);
         self.given.audit(&mut given);
-        let settled = Settled::new(self.list.len() as u32, self.total, allocated);
+        let settled = Settled::new(self.list.len() as u32, self.total, allocated, counts);
         self.settled = Some(settled);
     }
 

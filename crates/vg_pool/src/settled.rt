@@ -1,7 +1,12 @@
 //! What the settlement of a pool came to.
 ghost use Rattle.std.specs.Prelude.{◌≡◌};
 
+use crate::caches::CacheCounts;
+use arrayvec::ArrayVec;
 use std::marker::Model;
+
+// A pool has at most so many caches.
+pub(crate) const MOST_CACHES: usize = 8;
 
 /// What the settlement of a pool with all its caches came to. Only a pool that was settled gives one, by
 /// [`Pool::end`](crate::Pool::end): no other code can make it, so the buffers that it tells of were really there.
@@ -10,6 +15,8 @@ pub struct Settled {
     len: u32,
     total: u32,
     allocated: u64,
+    // Of each cache, in the order in which they were settled.
+    caches: ArrayVec<CacheCounts, MOST_CACHES>,
 }
 
 impl Model for Settled {
@@ -17,17 +24,23 @@ impl Model for Settled {
 
     ghost Value = { Settlement };
 
-    ghost view = { λ s. record { len = s.len; total = s.total; allocated = s.allocated } };
+    ghost view = { λ s. record { len = s.len; total = s.total; allocated = s.allocated; caches = s.caches.items } };
 }
 
 impl Settled {
-    pub(crate) fn new(len: u32, total: u32, allocated: u64) -> Settled
-        ensures { result ≡ record { len = len; total = total; allocated = allocated } }
+    pub(crate) fn new(
+        len: u32,
+        total: u32,
+        allocated: u64,
+        caches: ArrayVec<CacheCounts, MOST_CACHES>,
+    ) -> Settled
+        ensures { result ≡ record { len = len; total = total; allocated = allocated; caches = caches.items } }
     {
         Settled {
             len,
             total,
             allocated,
+            caches,
         }
     }
 
@@ -50,5 +63,12 @@ impl Settled {
         ensures { result ≡ self.now.allocated }
     {
         self.allocated
+    }
+
+    /// How many buffers each cache gave out and took in, in the order in which the caches were settled.
+    pub fn caches(&self) -> &[CacheCounts]
+        ensures { result.now ≡ self.now.caches }
+    {
+        self.caches.as_slice()
     }
 }

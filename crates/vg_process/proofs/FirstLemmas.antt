@@ -1,5 +1,6 @@
--- The block that waits under the earliest time has the first of all events.
-use Rattle.std.proofs.Common.{◌≡◌, ℕ, suc, zero, ◌+◌, ◌<◌, ◌≤◌, ◌⊎◌, List, [], ◌∷◌, ◌++◌, length, drop, take, get_or, set, map, Some, None, inl, inr, refl, sym, ap, ◌∙◌, arith, length-take, length-drop, get_or-set_same, get_or-set_other, get_or-take, get_or-drop}
+-- For `next_time` and `poll` of the processes: the block that waits under the earliest time has the first of all events.
+use Rattle.std.proofs.Common.{◌≡◌, ℕ, suc, zero, ◌+◌, ◌<◌, ◌≤◌, ◌⊎◌, List, [], ◌∷◌, ◌++◌, length, drop, take, get_or, set, map, Some, None}
+use Rattle.std.proofs.Common.{inl, inr, refl, sym, ap, ◌∙◌, arith, length-take, length-drop, get_or-set_same, get_or-set_other, get_or-take, get_or-drop}
 use Rattle.std.proofs.lemmas.Bool.{cases_eq, cases_lt}
 use Rattle.std.proofs.lemmas.List.{set_split, set-get_or, get_or_past}
 use Rattle.std.proofs.lemmas.List.Concat.{flat_map-append}

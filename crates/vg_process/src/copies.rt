@@ -2,21 +2,14 @@
 ghost use Rattle.std.specs.Prelude.{◌≡◌, IfOk};
 
 use std::alloc::{AllocError, Global};
-use vg_model::{Edit, EditLine, Edits, Name, RouteWord};
+use vg_model::{Edit, EditLine, Edits, RouteWord};
 use vg_script::Groups;
-
-// The same name once more.
-fn copied(name: &Name) -> Name
-    ensures { result ≡ name.now }
-{
-    name.clone().unwrap()
-}
 
 fn copy_target(to: &RouteWord) -> RouteWord
     ensures { result ≡ to.now }
 {
     match to {
-        RouteWord::Via(name) => RouteWord::Via(copied(name)),
+        RouteWord::Via(name) => RouteWord::Via(name.copied()),
         RouteWord::Local => RouteWord::Local,
         RouteWord::Drop => RouteWord::Drop,
     }
@@ -33,28 +26,28 @@ fn copy_edit(edit: &Edit) -> Edit
             up,
             filter,
         } => Edit::Interface {
-            name: copied(name),
+            name: name.copied(),
             mac: *mac,
             mtu: *mtu,
             up: *up,
             filter: *filter,
         },
         Edit::Node { name, kind } => Edit::Node {
-            name: copied(name),
+            name: name.copied(),
             kind: *kind,
         },
         Edit::Arc { from, slot, to } => Edit::Arc {
-            from: copied(from),
-            slot: copied(slot),
-            to: copied(to),
+            from: from.copied(),
+            slot: slot.copied(),
+            to: to.copied(),
         },
         Edit::Adjacency {
             name,
             interface,
             mac,
         } => Edit::Adjacency {
-            name: copied(name),
-            interface: copied(interface),
+            name: name.copied(),
+            interface: interface.copied(),
             mac: *mac,
         },
         Edit::Route { prefix, to } => Edit::Route {

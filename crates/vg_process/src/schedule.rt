@@ -5,7 +5,7 @@ ghost use Rattle.vg_script.specs.Lawful.{IsLawful};
 
 use crate::states::State;
 use crate::timers::Timers;
-use std::alloc::{AllocError, Global};
+use std::alloc::Global;
 use std::marker::Model;
 use vg_model::{Edits, Memory};
 use vg_script::Script;
@@ -57,16 +57,6 @@ impl Processes {
         requires { IsLawful script.now }
         ensures { IfOk result (λ processes. processes ≡ events script.now) }
     {
-        match Processes::made(alloc, script) {
-            Ok(processes) => Ok(processes),
-            Err(_) => Err(Memory),
-        }
-    }
-
-    fn made(alloc: Global, script: &Script) -> Result<Processes, AllocError>
-        requires { IsLawful script.now }
-        ensures { IfOk result (λ processes. processes ≡ events script.now) }
-    {
         let blocks = script.blocks.as_slice();
         let mut states = Vec::with_capacity(alloc, blocks.len())?;
         let mut times = Vec::with_capacity(alloc, blocks.len())?;
@@ -109,9 +99,7 @@ impl Processes {
             return Ok(None);
         }
         let state = &mut self.states[first.place];
-        let Ok(due) = state.next(self.alloc) else {
-            return Err(Memory);
-        };
+        let due = state.next(self.alloc)?;
         state.advance();
         self.timers.reset_first(now, state.next_time());
         Ok(Some(due))

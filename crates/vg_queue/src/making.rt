@@ -13,15 +13,9 @@ pub fn ring<T: Drop + Send>(alloc: Global, slots: u64) -> Result<(QueueTx<T>, Qu
     requires { (0 < slots) × (slots ≤ 256) }
     ensures { IfOk result (λ ends. AreNew slots ends.0 ends.1) }
 {
-    let Ok((line, mut pass)) = Line::ruled(alloc, slots as usize) else {
-        return Err(Memory);
-    };
-    let Ok(line) = Arc::new(alloc, line) else {
-        return Err(Memory);
-    };
-    let Ok(other) = Arc::try_clone(&line) else {
-        return Err(Memory);
-    };
+    let (line, mut pass) = Line::ruled(alloc, slots as usize)?;
+    let line = Arc::new(alloc, line)?;
+    let other = Arc::try_clone(&line)?;
     let receiver = line.another::<Part>(&mut pass);
     let tx = QueueTx {
         line,

@@ -10,9 +10,7 @@ ghost use Rattle.vg_replay.specs.Legs.{outcome_of};
 use crate::legs::Outcome;
 use vg_counters::Counters;
 use vg_model::DropError;
-
-/// The number of the node that drops packets.
-const ERROR_DROP: u16 = 8;
+use vg_model::start::ERROR_DROP;
 
 // Counts visits of nodes.
 fn count_visits(counts: &mut Counters, visits: &[u16])

@@ -9,20 +9,11 @@ ghost use Rattle.vg_replay.specs.Legs.{move_as, IsLeg, MayBeLeg};
 
 use std::alloc::AllocError;
 use vg_fork::Fork;
+use vg_model::limits::{LONGEST_PACKET, MOST_LEGS};
+use vg_model::start::{FIRST_SLOT, PG_INPUT};
 use vg_model::{DropError, Step};
 use vg_nodes::KindSet;
-use vg_pool::{Buffer, LONGEST_PACKET};
-
-/// The numbers of the packet source and of the node at which a packet comes in that was handed over.
-const PG_INPUT: u16 = 0;
-
-pub(crate) const HANDOFF_DEQUEUE: u16 = 1;
-
-/// The most legs of a packet.
-const MOST_LEGS: u8 = 4;
-
-/// The slot over which a packet goes on from the packet source, and over which one goes on that was handed over.
-const FIRST_SLOT: u8 = 0;
+use vg_pool::Buffer;
 
 /// How a leg ends.
 #[derive(Clone, Copy, Debug, PartialEq, Eq)]
@@ -62,7 +53,7 @@ fn handed(fork: &Fork, at: LegAt, node: u16, hash: u32) -> Move
             node: fork.arc(node, FIRST_SLOT),
         };
     }
-    let outcome = if at.number == MOST_LEGS {
+    let outcome = if at.number as usize == MOST_LEGS {
         Outcome::Dropped {
             node,
             error: DropError::HandoffLimit,

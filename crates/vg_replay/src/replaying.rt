@@ -71,10 +71,8 @@ fn pass<K: KindSet>(
         return Ok(fork);
     }
     let fork = fork_of(alloc, fork, master, generation)?;
-    match underway.take_all(input, kinds, &fork, numbers.as_slice()) {
-        Ok(()) => Ok(Some(fork)),
-        Err(_) => Err(Memory),
-    }
+    underway.take_all(input, kinds, &fork, numbers.as_slice())?;
+    Ok(Some(fork))
 }
 
 // Takes the packets on, generation by generation. Gives the last graph beside them.
@@ -118,9 +116,7 @@ fn go_through<K: KindSet>(
 {
     let book = input.plan.book(alloc, input.capture)?;
     let mut underway = Underway::new(alloc, input.plan.generations())?;
-    let Ok(()) = underway.begin(input, &book) else {
-        return Err(Memory);
-    };
+    underway.begin(input, &book)?;
     let last = pass_all(alloc, input, kinds, &mut underway)?;
     Ok((underway, last))
 }

@@ -20,17 +20,14 @@ use crate::times::starts_at;
 use crate::trips::{Trip, Trips};
 use crate::walkers::Walker;
 use std::alloc::{AllocError, Global};
-use vg_capture::Capture;
+use vg_capture::know_few;
 use vg_counters::Counters;
 use vg_fork::Fork;
+use vg_model::limits::{MOST_INTERFACES, MOST_NODES};
+use vg_model::lists::know_bytes;
 use vg_model::{Leg, Memory};
 use vg_nodes::KindSet;
 use vg_plan::{Book, Plan};
-
-/// The most nodes and interfaces of a graph.
-const MOST_NODES: u16 = 64;
-
-const MOST_INTERFACES: u16 = 16;
 
 /// Packets that are being taken through: how far each has come, when its next leg is due, and what is counted of those that are
 /// through. The packets before `stuck` are on their way; where there is a packet with that number, it has no journey.
@@ -53,25 +50,11 @@ fn goes_together(accepted: Option<u64>, outcome: Outcome) -> bool
     }
 }
 
-// Each byte is below 256.
-fn know_bytes(bytes: &[u8])
-    ensures { AreBytes bytes.now }
-{
-    let _ = bytes;
-}
-
 // The graphs of all generations are valid and keep the limits.
 fn know_graphs(plan: &Plan)
     ensures { AllByRecursion IsGeneration plan.now.graphs }
 {
     let _generations = plan.generations();
-}
-
-// A capture has no more than 65,536 packets.
-fn know_few(capture: &Capture)
-    ensures { length capture.now.packets ≤ 65536 }
-{
-    let _count = capture.packets.len();
 }
 
 // Takes a packet through its next leg, the first one under a generation. Whether it has one.
@@ -153,13 +136,11 @@ impl Underway {
     pub(crate) fn new(alloc: Global, generations: u32) -> Result<Underway, Memory>
         ensures { IfOk result (IsNew generations) }
     {
-        let Ok(schedule) = Schedule::new(alloc, generations) else {
-            return Err(Memory);
-        };
+        let schedule = Schedule::new(alloc, generations)?;
         Ok(Underway {
             trips: Trips::new(alloc),
             schedule,
-            counts: Counters::new(alloc, MOST_NODES, MOST_INTERFACES)?,
+            counts: Counters::new(alloc, MOST_NODES as u16, MOST_INTERFACES as u16)?,
             walker: Walker::new(alloc)?,
             stuck: 0,
         })

@@ -5,12 +5,13 @@ ghost use Rattle.vg_model.specs.Packet.{fresh};
 ghost use Rattle.vg_model.specs.Valid.{IsValid};
 ghost use Rattle.vg_replay.specs.Courses.{in_hand, MayBegin, MayGoOn};
 
-use crate::legs::{HANDOFF_DEQUEUE, LegAt, Outcome, first_leg, know_possible, leg_from};
+use crate::legs::{LegAt, Outcome, first_leg, know_possible, leg_from};
 use crate::trips::{Trip, copied};
 use std::alloc::{AllocError, Global};
 use std::marker::Brand;
 use std::sync::ledger::{Blank, Ledger};
 use vg_fork::Fork;
+use vg_model::start::HANDOFF_DEQUEUE;
 use vg_model::{Leg, Legs, Memory};
 use vg_nodes::KindSet;
 use vg_pool::{Buffer, Pool, PoolLedger};

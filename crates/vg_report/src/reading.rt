@@ -14,15 +14,9 @@ use crate::parts::{Parts, cut_at_first};
 use crate::reports::Report;
 use std::alloc::Global;
 use std::marker::Model;
-
-/// The most interfaces of a report.
-const MOST_INTERFACES: usize = 16;
-
-/// The most nodes of a report.
-const MOST_NODES: usize = 64;
-
-/// The most traces of a report.
-const MOST_TRACES: usize = 256;
+use vg_model::limits::{
+    MOST_BUFFERS, MOST_EVENTS, MOST_INTERFACES, MOST_NODES, MOST_PACKETS, MOST_TRACED, MOST_WORKERS,
+};
 
 /// A line, and whether it has its line feed.
 #[derive(Drop)]
@@ -157,10 +151,10 @@ impl<'a> Lines<'a> {
         ensures head { IfOk result (λ head. IsHead head) }
     {
         self.title()?;
-        let workers = self.count("workers", 1, 8)? as u8;
-        let buffers = self.count("buffers", 0, 16_384)? as u32;
-        let generations = self.count("generations", 1, 1_000)? as u32;
-        let packets = self.count("packets", 0, 65_536)? as u32;
+        let workers = self.count("workers", 1, MOST_WORKERS as u64)? as u8;
+        let buffers = self.count("buffers", 0, MOST_BUFFERS as u64)? as u32;
+        let generations = self.count("generations", 1, MOST_EVENTS + 1)? as u32;
+        let packets = self.count("packets", 0, MOST_PACKETS as u64)? as u32;
         Ok(Head {
             workers,
             buffers,
@@ -216,7 +210,7 @@ fn may_follow(report: &Report, packets: u32, kind: LineKind) -> bool
         LineKind::Node => interfaces > 0 && nodes < MOST_NODES && errors == 0 && so_far == 0,
         LineKind::Error => nodes > 0 && so_far == 0,
         LineKind::Packet => nodes > 0 && so_far < packets,
-        LineKind::Trace => so_far == packets && traces < packets && traces < MOST_TRACES,
+        LineKind::Trace => so_far == packets && traces < packets && traces < MOST_TRACED,
         LineKind::End => nodes > 0 && so_far == packets,
     }
 }

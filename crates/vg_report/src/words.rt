@@ -12,10 +12,8 @@ use crate::errors::ReportCause;
 use crate::kinds::LineKind;
 use crate::parts::{Parts, cut_at_first};
 use std::str;
+use vg_model::limits::MOST_LEGS;
 use vg_model::{DropError, Leg, Legs, Name};
-
-/// The most legs of a packet.
-const MOST_LEGS: usize = 4;
 
 /// Whether the word is decimal digits, the first of several not 0.
 fn is_decimal(word: &[u8]) -> bool

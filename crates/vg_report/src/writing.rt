@@ -272,13 +272,7 @@ pub fn write_report(alloc: Global, report: &Report) -> Result<Bytes, Memory>
     requires { IsLawful report.now }
     ensures { IfOk result (λ bytes. bytes ≡ text report.now) }
 {
-    written(alloc, report).map_err(|_| Memory)
-}
-
-// The text, in one vector that has room for it from the start.
-fn written(alloc: Global, report: &Report) -> Result<Bytes, AllocError>
-    ensures { IfOk result (λ bytes. bytes ≡ text report.now) }
-{
+    // One vector has room for it from the start.
     let room = report
         .packets
         .len()

@@ -1,4 +1,4 @@
--- What forms answer: lawful values, and causes other than want of memory.
+-- For `read_is_lawful`, and `parse_script`: what forms answer, which are lawful values, and causes other than want of memory.
 use Rattle.std.proofs.Common.{◌≢◌, ℕ, ◌≤◌, Bool, true, false, cond, List, [], ◌∷◌}
 use Rattle.std.specs.Prelude.{Option, Some, None, IsSome, IfSome, Result, Ok, Err, bytes_eq, codes}
 use Rattle.std.specs.List.{AllByRecursion}
@@ -14,7 +14,8 @@ use Rattle.vg_script.specs.Classes.{name_of, number_of, mac_of, prefix_of, kind_
 use Rattle.vg_script.specs.Lawful.{IsLawfulEdit, IsEdit, IsTarget}
 use Rattle.vg_script.specs.declared.statements.Statement.{Statement}
 use Rattle.vg_script.specs.declared.statements.Statement.TheVariants.{Change, At, Process, Then, End}
-use Rattle.vg_script.specs.Statements.{Words, Form, read_on, ◌>>=◌, gives, end_of_line, a_word, or_else, a_word_of, a_name, a_mac, a_prefix, a_kind, a_number, fixed, up_or_down, filter_or_nothing, target_by, a_target, interface_form, node_form, arc_form, adjacency_form, route_form, unroute_form, change, at_form, process_form, alone, Row, rows, row_of}
+use Rattle.vg_script.specs.Statements.{Words, Form, read_on, ◌>>=◌, gives, end_of_line, a_word, or_else, a_word_of, a_name, a_mac, a_prefix, a_kind, a_number, fixed, up_or_down, filter_or_nothing, target_by, a_target, interface_form, node_form, arc_form, adjacency_form, route_form, unroute_form}
+use Rattle.vg_script.specs.Statements.{change, at_form, process_form, alone, Row, rows, row_of}
 use Rattle.vg_script.proofs.ValueLemmas.{name_value, IsWithin, number_value, mac_value, HasAddress, prefix_value, kind_value, found_has}
 
 -- an answer has this property, or its cause isn't want of memory

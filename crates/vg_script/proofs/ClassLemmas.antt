@@ -1,5 +1,6 @@
--- The classes of words, in the steps in which they are read.
-use Rattle.std.proofs.Common.{◌≡◌, ℕ, suc, ◌-◌, ◌%◌, ◌^◌, ◌<◌, ◌≤◌, Bool, true, false, cond, not, ◌&&◌, ◌||◌, ltb, leb, eqb, List, [], ◌∷◌, length, drop, get_or, refl, sym, ap, subst, ◌∙◌, arith, true≢false, ltb-true, lt-ltb, le-leb, leb-true, eq-eqb, ne_eqb, IsUtf8, rules, ◌==◌}
+-- For `number`, `pair`, `mac`, `address`, `prefix` and `name`: the classes of words, in the steps in which they are read.
+use Rattle.std.proofs.Common.{◌≡◌, ℕ, suc, ◌-◌, ◌%◌, ◌^◌, ◌<◌, ◌≤◌, Bool, true, false, cond, not, ◌&&◌, ◌||◌, ltb, leb, eqb, List, [], ◌∷◌, length, drop, get_or}
+use Rattle.std.proofs.Common.{refl, sym, ap, subst, ◌∙◌, arith, true≢false, ltb-true, lt-ltb, le-leb, leb-true, eq-eqb, ne_eqb, IsUtf8, rules, ◌==◌}
 use Rattle.std.proofs.Math.Dec.{T}
 use Rattle.std.proofs.Math.Facts.{leb_yes, eqb_yes}
 use Rattle.std.specs.Result.{OkIff}
@@ -138,26 +139,47 @@ abbrev pub each : (List ℕ → Option ℕ) → List (List ℕ) → Option (List
 each class [] = Some []
 each class (part ∷ parts) = class part >>= λ x. each class parts >>= λ xs. Some (x ∷ xs)
 
-pub parted_step : (mark : ℕ) (class : List ℕ → Option ℕ) (more : ℕ) (text part behind : List ℕ) (parts : List (List ℕ))
-    → part ≡ before_first (λ byte. byte == mark) text → behind ≡ after_first (λ byte. byte == mark) text
-    → parted_by mark class more behind ≡ each class parts → parted_by mark class (suc more) text ≡ each class (part ∷ parts)
-unfolding behind_value
-parted_step mark class more text part behind parts front back h =
-    ap (λ t. behind_value (parted_by mark class more (after_first (λ byte. byte == mark) text)) (class t)) (sym front)
-    ∙ ap (λ t. behind_value (parted_by mark class more t) (class part)) (sym back)
-    ∙ ap (λ o. behind_value o (class part)) h
+-- a text is cut at its first mark into a part and what is behind
+pub record IsCutAt (mark : ℕ) (text part behind : List ℕ) : Type 0 where
+  pub before : part ≡ before_first (λ byte. byte == mark) text
+  pub after : behind ≡ after_first (λ byte. byte == mark) text
 
-pub parted_last : (mark : ℕ) (class : List ℕ → Option ℕ) (text : List ℕ) → parted_by mark class 0 text ≡ each class (text ∷ [])
-parted_last mark class text = refl
+-- a text that is cut at so many marks has the values of these parts
+pub record IsParted (mark : ℕ) (class : List ℕ → Option ℕ) (more : ℕ) (text : List ℕ) (parts : List (List ℕ)) : Type 0 where
+  pub is : parted_by mark class more text ≡ each class parts
 
-pub each_none : (class : List ℕ → Option ℕ) (part : List ℕ) (parts : List (List ℕ)) → None ≡ class part → each class (part ∷ parts) ≡ None
-unfolding behind_value
-each_none class part parts h = ap (behind_value (each class parts)) (sym h)
+-- these are the values of the parts, or one has none
+pub record HaveValues (class : List ℕ → Option ℕ) (parts : List (List ℕ)) (values : Option (List ℕ)) : Type 0 where
+  pub are : each class parts ≡ values
 
-pub each_some : (class : List ℕ → Option ℕ) (part : List ℕ) (parts : List (List ℕ)) (x : ℕ) (others : Option (List ℕ))
-    → Some x ≡ class part → each class parts ≡ others → each class (part ∷ parts) ≡ (others >>= λ xs. Some (x ∷ xs))
+pub parted_step : {mark : ℕ} {class : List ℕ → Option ℕ} {more : ℕ} {text part behind : List ℕ} {parts : List (List ℕ)}
+    → IsCutAt mark text part behind → IsParted mark class more behind parts → IsParted mark class (suc more) text (part ∷ parts)
 unfolding behind_value
-each_some class part parts x others h rest = ap (behind_value (each class parts)) (sym h) ∙ ap (λ o. behind_value o (Some x)) rest
+parted_step {mark} {class} {more} {text} {part} {behind} {parts} cut rest = record {
+  is = ap (λ t. behind_value (parted_by mark class more (after_first (λ byte. byte == mark) text)) (class t)) (sym cut.before)
+      ∙ ap (λ t. behind_value (parted_by mark class more t) (class part)) (sym cut.after)
+      ∙ ap (λ o. behind_value o (class part)) rest.is;
+}
+
+pub parted_last : {mark : ℕ} {class : List ℕ → Option ℕ} {text : List ℕ} → IsParted mark class 0 text (text ∷ [])
+parted_last {mark} {class} {text} = record { is = refl }
+
+pub each_none : {class : List ℕ → Option ℕ} {part : List ℕ} {parts : List (List ℕ)} → None ≡ class part → HaveValues class (part ∷ parts) None
+unfolding behind_value
+each_none {class} {part} {parts} h = record { are = ap (behind_value (each class parts)) (sym h) }
+
+pub each_some : {class : List ℕ → Option ℕ} {part : List ℕ} {parts : List (List ℕ)} {x : ℕ} {others : Option (List ℕ)}
+    → Some x ≡ class part → HaveValues class parts others → HaveValues class (part ∷ parts) (others >>= λ xs. Some (x ∷ xs))
+unfolding behind_value
+each_some {class} {part} {parts} {x} {others} h rest = record { are = ap (behind_value (each class parts)) (sym h) ∙ ap (λ o. behind_value o (Some x)) rest.are }
+
+pub each_end : {class : List ℕ → Option ℕ} → HaveValues class [] (Some [])
+each_end {class} = record { are = refl }
+
+-- so it has them
+pub parts_have : {mark : ℕ} {class : List ℕ → Option ℕ} {more : ℕ} {text : List ℕ} {parts : List (List ℕ)} {values : Option (List ℕ)}
+    → IsParted mark class more text parts → HaveValues class parts values → parted_by mark class more text ≡ values
+parts_have parted have = parted.is ∙ have.are
 
 -- what is given where a test passes, and where it doesn't
 given_yes : {X : Type 0} (test : Bool) (f : T test → Option X) (h : T test) → given test f ≡ f h

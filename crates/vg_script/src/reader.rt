@@ -14,10 +14,8 @@ use crate::words::{Words, is_blank};
 use std::alloc::Global;
 use std::marker::Model;
 use std::mem;
+use vg_model::limits::MOST_EVENTS;
 use vg_model::{EditLine, Edits, Name};
-
-/// The most runs of groups of edits that a script may ask for.
-const MOST_EVENTS: u64 = 999;
 
 /// A block that is begun.
 #[derive(Drop)]

@@ -5,6 +5,7 @@ ghost use Rattle.vg_script.specs.Statements.{row_of, interface_form, node_form, 
 
 use crate::errors::ScriptCause;
 use crate::words::Words;
+use vg_model::limits::{LONGEST_TIME, MOST_EVENTS};
 use vg_model::{Edit, Name};
 
 /// What a line says.
@@ -171,7 +172,7 @@ fn unroute(words: &mut Words) -> Result<Edit, ScriptCause>
 fn at(words: &mut Words) -> Result<Statement, ScriptCause>
     ensures { at_form words.old ≡ found result words.new }
 {
-    let time = words.number(0, 1_000_000_000_000)?;
+    let time = words.number(0, LONGEST_TIME)?;
     words.end()?;
     Ok(Statement::At { time })
 }
@@ -182,9 +183,9 @@ fn process(words: &mut Words) -> Result<Statement, ScriptCause>
 {
     let name = words.name()?;
     words.fixed("every")?;
-    let every = words.number(1, 1_000_000_000_000)?;
+    let every = words.number(1, LONGEST_TIME)?;
     words.fixed("count")?;
-    let count = words.number(1, 999)? as u32;
+    let count = words.number(1, MOST_EVENTS)? as u32;
     words.end()?;
     Ok(Statement::Process { name, every, count })
 }

@@ -339,10 +339,8 @@ pub fn print_script(alloc: Global, script: &Script) -> Result<Bytes, Memory>
     ensures { IfOk result (λ text. text ≡ plain script.now) }
 {
     let mut out = Vec::new(alloc);
-    match put_script(&mut out, script) {
-        Ok(()) => Ok(Bytes::from_vec(out)),
-        Err(_) => Err(Memory),
-    }
+    put_script(&mut out, script)?;
+    Ok(Bytes::from_vec(out))
 }
 
 #[cfg(test)]

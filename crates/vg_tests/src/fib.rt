@@ -5,7 +5,8 @@ ghost use Rattle.std.specs.Prelude.{◌≤◌};
 use std::alloc::Global;
 use std::process::Abort;
 use std::test::Fail;
-use vg_fib::{Fib, FibError, MOST_ROUTES, Mtrie, NoSuchRoute, laws};
+use vg_fib::{Fib, FibError, Mtrie, NoSuchRoute, laws};
+use vg_model::limits::MOST_ROUTES;
 use vg_model::{Prefix, RouteTo};
 
 // 0.0.0.0/0, 10.0.0.0/8 and 10.1.0.0/16.

@@ -33,6 +33,4 @@ mod script;
 #[cfg(test)]
 mod turns;
 #[cfg(test)]
-mod walk;
-#[cfg(test)]
 mod words;

@@ -4,8 +4,8 @@
 #[cfg(test)]
 mod barrier_tests;
 #[cfg(test)]
+mod frame_tests;
+#[cfg(test)]
 mod run_tests;
 #[cfg(test)]
 mod thread_tests;
-#[cfg(test)]
-mod walk_tests;

@@ -234,6 +234,12 @@ fn buffers_come_back_and_queues_are_closed(rt: HostRuntime) -> Result<(), Fail> 
     assert_eq!(rt; outcome.settled.total(), 4096);
     assert_eq!(rt; outcome.settled.allocated(), 4);
 
+    // Each worker's cache gave out two of them. All packets ended on worker 1, whose cache took their buffers in.
+    let caches = outcome.settled.caches();
+    assert_eq!(rt; caches.len(), 2);
+    assert_eq!(rt; (caches[0].allocated, caches[0].freed), (2, 0));
+    assert_eq!(rt; (caches[1].allocated, caches[1].freed), (2, 4));
+
     // A worker alone sends the same.
     let alone = Options {
         workers: 1,

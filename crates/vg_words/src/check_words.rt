@@ -8,6 +8,7 @@ use crate::commands::Check;
 use crate::numbers::number_or_default;
 use std::alloc::Global;
 use vg_model::Memory;
+use vg_model::limits::MOST_SLOTS;
 
 /// The value of `--queue` where this word is that option: None within where the value is the next word.
 fn queue_in(word: &str) -> Option<Option<&str>>
@@ -30,7 +31,7 @@ fn check_of_names<'a>(queue: Option<&str>, names: &[&'a str]) -> Option<Check<'a
 {
     match names {
         [capture, script, tx, report] => Some(Check {
-            queue: number_or_default(queue, 64, 1, 256)?,
+            queue: number_or_default(queue, 64, 1, MOST_SLOTS)?,
             capture,
             script,
             tx,
@@ -54,9 +55,7 @@ pub fn read_check<'a>(alloc: Global, words: &[&'a str]) -> Result<Option<Check<'
                 waits = false;
                 continue;
             }
-            let Ok(()) = names.push(*word) else {
-                return Err(Memory);
-            };
+            names.push(*word)?;
             continue;
         }
         if waits || queue.is_some() {

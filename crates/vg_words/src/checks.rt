@@ -86,9 +86,7 @@ pub fn are_well_formed(alloc: Global, words: &[&str]) -> Result<bool, Memory>
         let Some((name, follows)) = new_option(&used, word) else {
             return Ok(false);
         };
-        let Ok(()) = used.push(name) else {
-            return Err(Memory);
-        };
+        used.push(name)?;
         waits = follows;
     }
     Ok(!waits)

@@ -13,6 +13,9 @@ use clap::error::ErrorKind;
 use clap::{Arg, ArgAction, ArgMatches, Command as Parser};
 use std::alloc::{AllocError, Global};
 use vg_model::Memory;
+use vg_model::limits::{
+    FRAME_SIZE, MOST_BUFFERS, MOST_PACKETS, MOST_SLOTS, MOST_TRACED, MOST_WORKERS,
+};
 
 /// An option of a run, `--NAME VALUE` or `--NAME=VALUE`.
 fn an_option<'a>(alloc: Global, name: &'a str) -> Arg<'a>
@@ -61,9 +64,7 @@ fn run_matches<'a>(alloc: Global, words: &'a [&'a str]) -> Result<Option<ArgMatc
     ensures { IfOk result (λ matches. MatchOption matches (fault_of run_app (texts words.entry.now) ≡ [] → ⊥)
         (λ found. (fault_of run_app (texts words.entry.now) ≡ []) × (rows_of (found_of found) ≡ matches_of run_app (texts words.entry.now)))) }
 {
-    let Ok(parser) = run_parser(alloc) else {
-        return Err(Memory);
-    };
+    let parser = run_parser(alloc)?;
     match parser.try_get_matches_from(words) {
         Ok(matches) => Ok(Some(matches)),
         Err(error) => match error.kind() {
@@ -90,12 +91,18 @@ fn run_of<'a>(matches: &ArgMatches<'a>) -> Option<Run<'a>>
     let capture = matches.get_str("capture")?;
     let script = matches.get_str("script")?;
     let tx = matches.get_str("tx")?;
-    let workers = number_or_default(matches.get_str("workers"), 1, 1, 8)?;
-    let fewest_buffers = 256 * workers + 256;
-    let buffers = number_or_default(matches.get_str("buffers"), 4096, fewest_buffers, 16_384)?;
-    let queue = number_or_default(matches.get_str("queue"), 64, 1, 256)?;
-    let burst = number_or_default(matches.get_str("burst"), 256, 1, 256)?;
-    let trace = number_or_default(matches.get_str("trace"), 0, 0, 256)?;
+    let workers = number_or_default(matches.get_str("workers"), 1, 1, MOST_WORKERS as u64)?;
+    let frame = FRAME_SIZE as u64;
+    let fewest_buffers = frame * workers + frame;
+    let buffers = number_or_default(
+        matches.get_str("buffers"),
+        4096,
+        fewest_buffers,
+        MOST_BUFFERS as u64,
+    )?;
+    let queue = number_or_default(matches.get_str("queue"), 64, 1, MOST_SLOTS)?;
+    let burst = number_or_default(matches.get_str("burst"), frame, 1, frame)?;
+    let trace = number_or_default(matches.get_str("trace"), 0, 0, MOST_TRACED as u64)?;
     Some(Run {
         workers: workers as u8,
         buffers: buffers as u32,
@@ -131,8 +138,8 @@ fn read_load<'a>(words: &[&str]) -> Option<Command<'a>>
     match words {
         [seed, packets, workers] => {
             let seed = number(seed, 0, u64::MAX)?;
-            let packets = number(packets, 1, 65_536)?;
-            let workers = number(workers, 1, 8)?;
+            let packets = number(packets, 1, MOST_PACKETS as u64)?;
+            let workers = number(workers, 1, MOST_WORKERS as u64)?;
             Some(Command::Load {
                 seed,
                 packets: packets as u32,

@@ -169,12 +169,17 @@ fn a_packet_leaves_over_the_longest_match(rt: HostRuntime) -> Result<(), Fail> {
     Ok(())
 }
 
+// The fork by which all packets go to one neighbor.
+fn east(alloc: Global) -> Result<Fork, Fail> {
+    let mut graph = Graph::start(alloc)?;
+    set_adjacency(&mut graph, "east", "pg0", host(9))?;
+    fork(alloc, &graph, &[(EVERYWHERE, RouteTo::Via(0))])
+}
+
 #[test]
 fn a_time_to_live_of_2_leaves_as_1(rt: HostRuntime) -> Result<(), Fail> {
     let alloc = rt.alloc();
-    let mut graph = Graph::start(alloc)?;
-    set_adjacency(&mut graph, "east", "pg0", host(9))?;
-    let fork = fork(alloc, &graph, &[(EVERYWHERE, RouteTo::Via(0))])?;
+    let fork = east(alloc)?;
     let mut buffer = buffer(alloc)?;
     for (ttl, checksum, expected) in [
         (1, 0xebd4, dropped(5, DropError::TtlExpired)),
@@ -188,6 +193,57 @@ fn a_time_to_live_of_2_leaves_as_1(rt: HostRuntime) -> Result<(), Fail> {
     let sent = header(20, 1, 0xebd4, [10, 1, 2, 3]);
     let frame_out = frame(alloc, host(9), PG0, &sent, 34)?;
     assert_eq!(rt; buffer.bytes(), frame_out.as_slice());
+    Ok(())
+}
+
+// A frame of so many bytes with the first header leaves with the second.
+fn assert_sent(
+    rt: &impl Abort,
+    alloc: Global,
+    fork: &Fork,
+    received: &[u8],
+    sent: &[u8],
+    len: usize,
+) -> Result<(), Fail> {
+    let mut buffer = buffer(alloc)?;
+    let frame_in = frame(alloc, PG0, host(1), received, len)?;
+    assert_eq!(rt; end(rt, fork, frame_in.as_slice(), &mut buffer), SENT);
+    let frame_out = frame(alloc, host(9), PG0, sent, len)?;
+    assert_eq!(rt; buffer.bytes(), frame_out.as_slice());
+    Ok(())
+}
+
+#[test]
+fn checksums_padding_and_options_are_kept_right(rt: HostRuntime) -> Result<(), Fail> {
+    let alloc = rt.alloc();
+    let fork = east(alloc)?;
+    let mut full = header(20, 64, 0xffff, [10, 1, 2, 3]);
+    full[4] = 0xac;
+    full[5] = 0xd4;
+    let mut full_sent = full;
+    full_sent[8] = 63;
+    full_sent[10] = 0x01;
+    full_sent[11] = 0x00;
+    assert_sent(&rt, alloc, &fork, &full, &full_sent, 34)?;
+    let padded = header(40, 64, 0xacc0, [10, 1, 2, 3]);
+    let padded_sent = header(40, 63, 0xadc0, [10, 1, 2, 3]);
+    assert_sent(&rt, alloc, &fork, &padded, &padded_sent, 60)?;
+    let with_options = [
+        0x46, 0, 0, 24, 0, 0, 0, 0, 64, 17, 0xa9, 0xcf, 192, 0, 2, 1, 10, 1, 2, 3, 1, 1, 1, 0,
+    ];
+    let mut options_sent = with_options;
+    options_sent[8] = 63;
+    options_sent[10] = 0xaa;
+    assert_sent(&rt, alloc, &fork, &with_options, &options_sent, 38)?;
+
+    // A datagram that is longer than its frame.
+    let long = header(21, 64, 0xacd3, [10, 1, 2, 3]);
+    let received = frame(alloc, PG0, host(1), &long, 34)?;
+    let mut buffer = buffer(alloc)?;
+    assert_eq!(rt;
+        end(&rt, &fork, received.as_slice(), &mut buffer),
+        dropped(3, DropError::BadLength)
+    );
     Ok(())
 }
 

@@ -62,6 +62,12 @@ fn all_buffers_are_back_as_the_caches_are_settled(rt: HostRuntime) -> Result<(),
     assert_eq!(rt; settled.len(), 300);
     assert_eq!(rt; settled.total(), 300);
     assert_eq!(rt; settled.allocated(), 2);
+
+    // Both came out of the first cache, and one went into each.
+    let caches = settled.caches();
+    assert_eq!(rt; caches.len(), 2);
+    assert_eq!(rt; (caches[0].allocated, caches[0].freed), (2, 1));
+    assert_eq!(rt; (caches[1].allocated, caches[1].freed), (0, 1));
     Ok(())
 }
 

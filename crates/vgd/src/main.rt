@@ -1,41 +1,13 @@
 //! `vgd`: the packets of a savefile through a graph of nodes.
 #![tactic(auto)]
 
-#[cfg(test)]
-mod check_tests;
-pub mod checking;
-pub mod done;
-pub mod dues;
-#[cfg(test)]
-mod fault_tests;
-#[cfg(test)]
-mod hold_tests;
-pub mod laws;
-pub mod load;
-#[cfg(test)]
-mod load_tests;
-pub mod loading;
-pub mod lossless;
-#[cfg(test)]
-mod memory_runs;
-pub mod printing;
-pub mod reading;
-pub mod refusals;
-pub mod reporting;
-pub mod run;
-#[cfg(test)]
-mod tests;
-pub mod top;
-#[cfg(test)]
-mod worker_tests;
-
 use std::io::ErrorKind;
 use std::process::ExitCode;
 use std::rt::Env;
 use std::{env, io};
-use top::vgd_run;
 use vg_explain::{Keeping, explain_vgd};
 use vg_outside::{OpenGate, RealFolder, RealSink};
+use vg_top::vgd_run;
 
 /// The words after the program's name.
 fn program_words<R: Env + AllocGlobal>(rt: &R) -> io::Result<Vec<String>> {

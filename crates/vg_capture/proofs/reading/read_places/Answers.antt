@@ -9,18 +9,21 @@ loop-rest-init g c = nothing_read g.T.ByteOrder.number_of c.args.big c.args.file
 
 pub returns-then-rest-lt-RECORD_HEADER_LEN-clause-read : goal.returns-then-rest-lt-RECORD_HEADER_LEN-clause-read
 returns-then-rest-lt-RECORD_HEADER_LEN-clause-read g c =
+    let room = (room_for_one c.args.big c.args.file.now c.loop-rest.places.items _ c.loop-rest.invariant.are (omega (arith, c.loop-rest.places.ok)) c.if-len-eq-MOST_PACKETS.false).1 in
     refused_short g.T.ByteOrder.number_of (drop 24 c.args.file.now) c.loop-rest.place c.loop-rest.rest.now (captured_in c.args.big c.args.file.now c.loop-rest.places.items) c.loop-rest.invariant.read
-    (room_for_one c.args.big c.args.file.now c.loop-rest.places.items _ c.loop-rest.invariant.are (omega (arith, c.loop-rest.places.ok)) c.if-len-eq-MOST_PACKETS.false).1 (search rules) c.if-rest-lt-RECORD_HEADER_LEN.true
+    room (search rules) c.if-rest-lt-RECORD_HEADER_LEN.true
 
 pub returns-then-len-gt-LONGEST_RECORD-clause-read : goal.returns-then-len-gt-LONGEST_RECORD-clause-read
 returns-then-len-gt-LONGEST_RECORD-clause-read g c =
+    let room = (room_for_one c.args.big c.args.file.now c.loop-rest.places.items _ c.loop-rest.invariant.are (omega (arith, c.loop-rest.places.ok)) c.if-len-eq-MOST_PACKETS.false).1 in
     refused_long g.T.ByteOrder.number_of (drop 24 c.args.file.now) c.loop-rest.place c.loop-rest.rest.now (captured_in c.args.big c.args.file.now c.loop-rest.places.items) c.u32_at-len.result c.loop-rest.invariant.read
-    (room_for_one c.args.big c.args.file.now c.loop-rest.places.items _ c.loop-rest.invariant.are (omega (arith, c.loop-rest.places.ok)) c.if-len-eq-MOST_PACKETS.false).1 (search rules) c.u32_at-len.ensures c.if-len-gt-LONGEST_RECORD.true
+    room (search rules) c.u32_at-len.ensures c.if-len-gt-LONGEST_RECORD.true
 
 pub returns-then-body-len-clause-read : goal.returns-then-body-len-clause-read
 returns-then-body-len-clause-read g c =
+    let room = (room_for_one c.args.big c.args.file.now c.loop-rest.places.items _ c.loop-rest.invariant.are (omega (arith, c.loop-rest.places.ok)) c.if-len-eq-MOST_PACKETS.false).1 in
     refused_cut g.T.ByteOrder.number_of (drop 24 c.args.file.now) c.loop-rest.place c.loop-rest.rest.now (captured_in c.args.big c.args.file.now c.loop-rest.places.items) c.u32_at-len.result c.split_at-in-loop-rest.result.1.now
-    c.loop-rest.invariant.read (room_for_one c.args.big c.args.file.now c.loop-rest.places.items _ c.loop-rest.invariant.are (omega (arith, c.loop-rest.places.ok)) c.if-len-eq-MOST_PACKETS.false).1 (search rules) c.u32_at-len.ensures c.if-len-gt-LONGEST_RECORD.false c.split_at-in-loop-rest.ensures.back c.if-body-len.true
+    c.loop-rest.invariant.read room (search rules) c.u32_at-len.ensures c.if-len-gt-LONGEST_RECORD.false c.split_at-in-loop-rest.ensures.back c.if-body-len.true
 
 pub loop-rest-preserved : goal.loop-rest-preserved
 loop-rest-preserved g c =

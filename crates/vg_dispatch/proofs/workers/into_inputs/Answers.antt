@@ -2,7 +2,7 @@ use Rattle.std.proofs.Common.{◌≡◌, ◌++◌, [], map, rules, sym, ap, arit
 use Rattle.std.specs.Vec.Iter.{into_iter_items}
 use Rattle.std.proofs.lemmas.List.{nil_from_length}
 use Rattle.vg_ring.specs.Ends.{rx_ring, taken}
-use Rattle.vg_dispatch.specs.Queues.{Queue}
+use Rattle.vg_underway.specs.Queues.{Queue}
 use Rattle.vg_dispatch.proofs.workers.into_inputs.Goals as goal
 
 pub push_reserved-requires : goal.push_reserved-requires

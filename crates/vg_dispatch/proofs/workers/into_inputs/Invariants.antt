@@ -2,7 +2,7 @@ use Rattle.std.proofs.Common.{◌≡◌, ◌≤◌, ◌+◌, ◌++◌, None, map
 use Rattle.std.specs.Vec.Iter.{into_iter_items, into_iter_len}
 use Rattle.std.specs.List.{AllByRecursion}
 use Rattle.vg_ring.specs.Ends.{taken, rx_ring}
-use Rattle.vg_dispatch.specs.Queues.{Queue}
+use Rattle.vg_underway.specs.Queues.{Queue}
 use Rattle.vg_dispatch.proofs.workers.into_inputs.Given as goal
 
 abbrev pub invariant-loop-incoming : goal.invariant-loop-incoming

@@ -1,4 +1,4 @@
-use Rattle.std.proofs.Common.{◌≡◌, ◌<◌, ℕ, List, Vec, Global, length, rules, arith, ap, sym, subst, ◌∙◌}
+use Rattle.std.proofs.Common.{◌≡◌, ◌<◌, ℕ, List, Vec, Global, length, map, rules, arith, ap, sym, subst, ◌∙◌}
 use Rattle.std.specs.Prelude.{flat_map}
 use Rattle.std.specs.List.{AllByRecursion}
 use Rattle.std.specs.List.Sorted.{IsPermutation}
@@ -14,15 +14,17 @@ use Rattle.vg_plan.specs.Routed.{with_routes}
 use Rattle.vg_barrier.specs.Seats.{main_view}
 use Rattle.vg_journeys.specs.Accounts.{HandoffFrame}
 use Rattle.vg_dispatch.specs.declared.parcels.Stop.TheVariants as stops
-use Rattle.vg_engine.specs.Places.{AllWith, pairs}
-use Rattle.vg_engine.specs.Crews.{HaveEnded}
-use Rattle.vg_engine.specs.Closing.{IsClosed}
-use Rattle.vg_engine.specs.Ended.{HasOutputs}
-use Rattle.vg_engine.proofs.PlaceLemmas.{with_length}
-use Rattle.vg_engine.proofs.TurnLemmas.{last_graph_is}
-use Rattle.vg_engine.proofs.DecisionLemmas.{stands_at_end}
+use Rattle.vg_workers.specs.Places.{AllWith, pairs}
+use Rattle.vg_workers.specs.Crews.{HaveEnded}
+use Rattle.vg_workers.specs.Closing.{IsClosed}
+use Rattle.vg_workers.specs.Ended.{HasOutputs}
+use Rattle.vg_workers.proofs.PlaceLemmas.{with_length}
+use Rattle.vg_threads.proofs.TurnLemmas.{last_graph_is}
+use Rattle.vg_threads.proofs.DecisionLemmas.{stands_at_end}
 use Rattle.vg_engine.proofs.EndLemmas.{queues_of, ends_are, rests_empty}
 use Rattle.vg_engine.proofs.OutcomeLemmas.{kept_is, one_size_is, one_length_is, room_is, buffers_are, settled_is, is_outcome}
+use Rattle.vg_engine.proofs.RingLemmas.{ends_rings}
+use Rattle.vg_ring.specs.Rests.{rest_ring}
 use Rattle.vg_engine.proofs.runs.conclude.Goals as goal
 
 pub close_all-requires-clause-ends : goal.close_all-requires-clause-ends
@@ -84,8 +86,8 @@ close-pool-requires-clause-freed g c =
     let same = back.freed in
     omega (arith, same)
 
-pub returns : goal.returns
-returns g c =
+pub returns-clause-outcome : goal.returns-clause-outcome
+returns-clause-outcome g c =
     let kept = c.in_ok-logs.ensures in
     let ws = c.args.workers.items in
     let crew = c.requires.crew in
@@ -124,3 +126,6 @@ returns g c =
     (subst (λ (parts : List Notes). IsMerged parts c.in_ok-fates.field-0.trace) kept.traces_are gathered.trace)
     (c.len.ensures ∙ ap (λ (s : Settlement). s.len) settled) settled
     (last_graph_is plan m.released c.args.lead.now.processes c.args.lead.now.master c.in_ok-last.last end.0 end.1 last) c.from_vec.ensures emptied end.2
+
+pub returns-clause-rings : goal.returns-clause-rings
+returns-clause-rings g c = ap (map rest_ring) c.from_vec.ensures ∙ c.in_ok-rests.ensures.rings ∙ ends_rings c.args.workers.items c.in_ok-logs.field-0.outputs.items c.in_ok-logs.ensures.outputs_are

@@ -2,9 +2,9 @@ use Rattle.std.proofs.Common.{◌≡◌, ◌+◌, ℕ, List, length, rules, ap, 
 use Rattle.std.specs.List.{AllByRecursion}
 use Rattle.vg_fork.specs.Forked.{Forked}
 use Rattle.vg_dispatch.specs.declared.parcels.WorkerParcel.{WorkerParcel}
-use Rattle.vg_engine.specs.Places.{AllAt}
+use Rattle.vg_workers.specs.Places.{AllAt}
 use Rattle.vg_engine.specs.Seats.{first_parcel}
-use Rattle.vg_engine.proofs.PlaceLemmas.{all_more}
+use Rattle.vg_workers.proofs.PlaceLemmas.{all_more}
 use Rattle.vg_engine.proofs.seats.parcels_of.Goals as goal
 
 pub loop-fork-preserved : goal.loop-fork-preserved

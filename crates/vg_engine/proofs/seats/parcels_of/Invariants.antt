@@ -1,7 +1,7 @@
 use Rattle.std.proofs.Common.{◌≡◌, ◌+◌, length}
 use Rattle.std.specs.Vec.Iter.{into_iter_items, into_iter_len}
 use Rattle.std.specs.List.{AllByRecursion}
-use Rattle.vg_engine.specs.Places.{AllAt}
+use Rattle.vg_workers.specs.Places.{AllAt}
 use Rattle.vg_engine.specs.Seats.{first_parcel}
 use Rattle.vg_engine.proofs.seats.parcels_of.Given as goal
 

@@ -3,9 +3,9 @@ use Rattle.std.specs.Prelude.{slice_get, Some}
 use Rattle.vg_steps.specs.Tables.{place}
 use Rattle.vg_plan.proofs.GenerationLemmas.{length_graphs}
 use Rattle.vg_dispatch.specs.Workers.{Windows}
-use Rattle.vg_engine.specs.Places.{AllAt}
+use Rattle.vg_workers.specs.Places.{AllAt}
 use Rattle.vg_engine.specs.Seats.{IsFirstSeat}
-use Rattle.vg_engine.proofs.TurnLemmas.{book_length, window_is}
+use Rattle.vg_threads.proofs.TurnLemmas.{book_length, window_is}
 use Rattle.vg_engine.proofs.SeatLemmas.{are_first, first_seats}
 use Rattle.vg_engine.proofs.seats.seats_of.Goals as goal
 

@@ -1,17 +1,19 @@
-use Rattle.std.proofs.Common.{◌≡◌, ◌+◌, ◌<◌, ℕ, suc, List, [], ◌∷◌, length, length-append, rules, arith, ap, sym, subst, ◌∙◌}
+use Rattle.std.proofs.Common.{◌≡◌, ◌+◌, ◌<◌, ◌++◌, ℕ, suc, List, [], ◌∷◌, length, map, append-nil, length-append, rules, arith, ap, sym, subst, ◌∙◌}
 use Rattle.std.specs.Prelude.{Some}
 use Rattle.std.specs.List.{AllByRecursion}
 use Rattle.std.specs.Vec.Iter.{into_iter_items}
-use Rattle.vg_engine.specs.Places.{AllAt}
+use Rattle.std.proofs.lemmas.List.{nil_from_length}
+use Rattle.vg_workers.specs.Places.{AllAt}
 use Rattle.vg_plan.specs.Plan.{windows}
 use Rattle.vg_model.specs.PoolBook.{CacheBook, empty_cache}
 use Rattle.vg_dispatch.specs.Workers.{WorkerBook}
 use Rattle.vg_dispatch.specs.Standing.{barrier_id, barrier_of}
-use Rattle.vg_engine.specs.Linked.{IsLinked}
-use Rattle.vg_engine.specs.Crews.{IsMember}
+use Rattle.vg_workers.specs.Linked.{IsLinked}
+use Rattle.vg_workers.specs.Crews.{IsMember}
 use Rattle.vg_engine.specs.Seats.{IsFirstSeat}
-use Rattle.vg_engine.proofs.PlaceLemmas.{all_more}
+use Rattle.vg_workers.proofs.PlaceLemmas.{all_more}
 use Rattle.vg_engine.proofs.SeatLemmas.{inputs_count, outputs_count}
+use Rattle.vg_engine.proofs.RingLemmas.{next_rings}
 use Rattle.vg_engine.proofs.seats.workers_of.Goals as goal
 
 pub loop-link-init : goal.loop-link-init
@@ -24,6 +26,7 @@ loop-link-init g c =
     let input = c.args.input.now in
     record {
       count = search rules;
+      rings = ap (λ (ws : List WorkerBook). map (λ (w : WorkerBook). w.outputs) ws ++ map (λ k. map g.H.Handoff.ring k.outputs.items) (into_iter_items c.into_iter-link-iterator.result)) none ∙ ap (map (λ k. map g.H.Handoff.ring k.outputs.items)) links_are;
       caches_left = search rules;
       seats_left = search rules;
       caches_are = search rules;
@@ -95,6 +98,9 @@ loop-link-preserved g c =
     } in
     record {
       count = omega (arith, count, more, link_len);
+      rings = ap (λ (ws : List WorkerBook). map (λ (w : WorkerBook). w.outputs) ws ++ map (λ k. map g.H.Handoff.ring k.outputs.items) (into_iter_items c.next.new.self)) c.in_ok-push.ensures
+          ∙ next_rings workers c.in-Ok.worker _ _ made.rings.1
+          ∙ ap (λ ks. map (λ (w : WorkerBook). w.outputs) workers ++ map (λ k. map g.H.Handoff.ring k.outputs.items) ks) (sym steps.0) ∙ inv.rings;
       caches_left = omega (arith, caches_left, cache_len, link_len);
       seats_left = omega (arith, seats_left, seat_len, link_len);
       caches_are = (subst (AllByRecursion (λ (cache : CacheBook). cache ≡ empty_cache)) cache_steps.items inv.caches_are).1;
@@ -105,3 +111,9 @@ loop-link-preserved g c =
         subst (AllAt IsOne 0) (sym c.in_ok-push.ensures) (all_more IsOne 0 workers c.in-Ok.worker inv.linked.2 (subst (λ (k : ℕ). IsOne k c.in-Ok.worker) (let z : n ≡ 0 + n = omega arith in z) one)),
       );
     }
+
+pub returns-clause-rings : goal.returns-clause-rings
+returns-clause-rings g c =
+    let empty = c.in-None.ensures.steps.0 in
+    let none : into_iter_items c.loop-link.link-iterator ≡ [] = nil_from_length _ (search rules) in
+    sym (append-nil _) ∙ ap (λ ks. map (λ (w : WorkerBook). w.outputs) c.loop-link.workers.items ++ map (λ k. map g.H.Handoff.ring k.outputs.items) ks) (sym none) ∙ c.loop-link.invariant.rings

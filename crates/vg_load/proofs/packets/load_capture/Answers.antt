@@ -11,11 +11,11 @@ loop-number-preserved c =
     let number : ℕ = c.loop-number.number in
     let made : List Captured = c.loop-number.made.items in
     let state : ℕ = c.loop-number.words in
-    let packet : Captured = c.in-Ok.packet in
-    let pushed : c.push.new.self.items ≡ made ++ packet ∷ [] = c.in-Ok-push.ensures.items in
+    let packet : Captured = c.in_ok-packet.packet in
+    let pushed : c.push.new.self.items ≡ made ++ packet ∷ [] = c.in_ok-push.ensures.items in
     let word : c.next_word.result ≡ (mix_u64 state).0 = ap (λ (p : ℕ × ℕ). p.0) c.next_word.ensures in
     let after : c.next_word.new.self ≡ (mix_u64 state).1 = ap (λ (p : ℕ × ℕ). p.1) c.next_word.ensures in
-    let is : packet ≡ load_packet number (mix_u64 state).0 = c.in-Ok.ensures ∙ ap (load_packet number) word in (
+    let is : packet ≡ load_packet number (mix_u64 state).0 = c.in_ok-packet.ensures ∙ ap (load_packet number) word in (
       ap (λ items. items ++ packets_from (total - (number + 1)) (number + 1) c.next_word.new.self) pushed
           ∙ made_more made total number state packet c.next_word.new.self c.loop-number-test.true is after
           ∙ c.loop-number.invariant.0,
@@ -45,4 +45,4 @@ returns c =
     sym (append-nil made) ∙ ap (λ l. made ++ l) (sym (no_packet number c.loop-number.words))
     ∙ ap (λ n. made ++ packets_from n number c.loop-number.words) (sym none)
     ∙ c.loop-number.invariant.0 in
-    record { micros = refl; snaplen = refl; made = c.in-Ok-of.ensures ∙ c.as_slice.ensures.value ∙ all }
+    record { micros = refl; snaplen = refl; made = c.in_ok-packets.ensures ∙ c.as_slice.ensures.value ∙ all }

@@ -12,8 +12,13 @@ pub returns-then-is_empty : goal.returns-then-is_empty
 returns-then-is_empty g c =
     let task : Task = task_of g.K.KindSet.meaning c.args.input.now in
     let sound : IsSound task = record { kinds = g.met.K.KindSet.lawful; graphs = c.know_graphs.ensures; workers = (let h = c.requires.input.workers.0 in omega (arith, h)) } in
+    let traced = c.args.input.now.traced in
+    let generation = c.args.fork.now.generation in
+    let graph = c.args.fork.now.graph in
+    let trip = c.args.trip.now in
+    let none = is_none c.legs.result.now trip.legs c.is_empty.result c.legs.ensures.legs c.is_empty.ensures c.if-is_empty.true in
     if_ok c.begin.result _ _
-    (λ there h. begun_walks task sound c.args.input.now.traced c.args.fork.now.generation c.args.number c.args.fork.now.graph c.requires.graph c.args.trip.now c.requires.here (is_none c.legs.result.now c.args.trip.now.legs c.is_empty.result c.legs.ensures.legs c.is_empty.ensures c.if-is_empty.true) c.bytes-bytes.result.now
+    (λ there h. begun_walks task sound traced generation c.args.number graph c.requires.graph trip c.requires.here none c.bytes-bytes.result.now
     (slice_get-map (λ (p : Captured). p.bytes) c.args.input.now.capture.now.packets c.args.number ∙ c.bytes-bytes.ensures) (in_hand c.begin.new.self) there h)
     c.begin.ensures
 
@@ -24,7 +29,12 @@ pub returns : goal.returns
 returns g c =
     let task : Task = task_of g.K.KindSet.meaning c.args.input.now in
     let sound : IsSound task = record { kinds = g.met.K.KindSet.lawful; graphs = c.know_graphs.ensures; workers = (let h = c.requires.input.workers.0 in omega (arith, h)) } in
+    let traced = c.args.input.now.traced in
+    let generation = c.args.fork.now.generation in
+    let graph = c.args.fork.now.graph in
+    let trip = c.args.trip.now in
+    let some = is_some c.legs.result.now trip.legs c.is_empty.result c.legs.ensures.legs c.is_empty.ensures c.if-is_empty.false in
     if_ok c.step.result _ _
-    (λ there h. taken_walks task sound c.args.input.now.traced c.args.fork.now.generation c.args.number c.args.fork.now.graph c.requires.graph c.args.trip.now c.requires.here (is_some c.legs.result.now c.args.trip.now.legs c.is_empty.result c.legs.ensures.legs c.is_empty.ensures c.if-is_empty.false) (in_hand c.take_up.new.self) (in_hand c.step.new.self)
+    (λ there h. taken_walks task sound traced generation c.args.number graph c.requires.graph trip c.requires.here some (in_hand c.take_up.new.self) (in_hand c.step.new.self)
     c.in_ok-take_up.ensures there h)
     c.step.ensures

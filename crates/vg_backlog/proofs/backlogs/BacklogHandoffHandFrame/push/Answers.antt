@@ -20,3 +20,11 @@ returns-clause-end c = (tells c.args.item c.args.self.now c.hand.new.self c.hand
 
 pub returns-clause-head_rises : goal.returns-clause-head_rises
 returns-clause-head_rises c = (tells c.args.item c.args.self.now c.hand.new.self c.hand.ensures.same.1 c.hand.ensures.behind c.hand.ensures.first).rises
+
+pub returns-clause-steps : goal.returns-clause-steps
+returns-clause-steps c = (tells c.args.item c.args.self.now c.hand.new.self c.hand.ensures.same.1 c.hand.ensures.behind c.hand.ensures.first).steps
+
+pub returns-clause-waiting : goal.returns-clause-waiting
+returns-clause-waiting c =
+    let told = tells c.args.item c.args.self.now c.hand.new.self c.hand.ensures.same.1 c.hand.ensures.behind c.hand.ensures.first in
+    (told.held, told.one)

@@ -1,5 +1,5 @@
 use Rattle.std.proofs.Common.{arith, sym}
-use Rattle.vg_backlog.proofs.AdvanceLemmas.{advances_accepted, advances_fewer, advances_shorter, advances_same, advances_rises}
+use Rattle.vg_backlog.proofs.AdvanceLemmas.{advances_accepted, advances_fewer, advances_shorter, advances_same, advances_rises, advances_steps, advances_full}
 use Rattle.vg_backlog.proofs.PushLemmas.{closed_more}
 use Rattle.vg_backlog.proofs.backlogs.BacklogHandoffHandFrame.tick.Goals as goal
 
@@ -24,3 +24,12 @@ returns-clause-end c = advances_same _ _ _ _ c.advance.ensures.advances
 
 pub returns-clause-head_rises : goal.returns-clause-head_rises
 returns-clause-head_rises c = advances_rises _ _ _ _ c.advance.ensures.advances
+
+pub returns-clause-steps : goal.returns-clause-steps
+returns-clause-steps c = advances_steps _ _ _ _ c.advance.ensures.advances
+
+pub returns-clause-waiting : goal.returns-clause-waiting
+returns-clause-waiting c = advances_shorter _ _ _ _ c.advance.ensures.advances
+
+pub returns-clause-ticks : goal.returns-clause-ticks
+returns-clause-ticks c = advances_full _ _ _ _ c.advance.ensures.advances

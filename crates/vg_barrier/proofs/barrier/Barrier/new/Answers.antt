@@ -40,13 +40,13 @@ loop-k-preserved g c =
       made_for = inv.made_for;
       all = inv.all;
       main = made.main ∙ (λ i. (Main (made_one (before i)), []));
-      count = ap length c.in-Ok-push.ensures.items
+      count = ap length c.in-Ok.ensures.items
           ∙ (let l = length-append c.loop-k.running.items (w ∷ []) in let n = inv.count in omega arith);
       room = search rules;
       numbered =
           each_more
           (IsFirst c.in_ok-barrier.barrier c.args.book marks) c.loop-k.running.items c.push.new.self.items w
-          c.in-Ok-push.ensures.items inv.numbered
+          c.in-Ok.ensures.items inv.numbered
           (subst (λ (n : ℕ). IsFirst c.in_ok-barrier.barrier c.args.book marks n w) (sym inv.count) record {
             seat = ran.seat.0 ∙ made.seats.1;
             view = left;

@@ -1,10 +1,10 @@
 use Rattle.std.proofs.Common.{◌≡◌, ◌≢◌, ◌<◌, ◌∙◌, List, [], ap, sym, arith, length, map, get_or}
 use Rattle.std.proofs.lemmas.List.{length-map}
 use Rattle.vg_journeys.specs.Accounts.{HandoffFrame, frames_with}
-use Rattle.vg_dispatch.specs.Queues.{Queue}
-use Rattle.vg_dispatch.specs.Peers.{place_among, by_worker}
+use Rattle.vg_underway.specs.Queues.{Queue}
+use Rattle.vg_underway.specs.Peers.{place_among, by_worker}
 use Rattle.vg_dispatch.specs.Workers.{WorkerBook}
-use Rattle.vg_dispatch.proofs.PeerLemmas.{place_within, peers_at, map_at}
+use Rattle.vg_underway.proofs.PeerLemmas.{place_within, peers_at, map_at}
 use Rattle.vg_dispatch.proofs.workers.Worker.dispatched.Goals as goal
 
 pub index-requires : goal.index-requires

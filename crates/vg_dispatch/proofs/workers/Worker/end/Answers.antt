@@ -1,9 +1,9 @@
 use Rattle.std.proofs.Common.{◌≡◌, None, sym, subst}
 use Rattle.std.specs.Prelude.{Option}
 use Rattle.vg_journeys.specs.Accounts.{HandoffFrame}
-use Rattle.vg_dispatch.specs.Queues.{Queue}
+use Rattle.vg_underway.specs.Queues.{Queue}
 use Rattle.vg_dispatch.specs.Workers.{IsIdle}
-use Rattle.vg_dispatch.proofs.PeerLemmas.{all_map}
+use Rattle.vg_underway.proofs.PeerLemmas.{all_map}
 use Rattle.vg_dispatch.proofs.workers.Worker.end.Goals as goal
 
 pub into_inputs-requires-clause-idle : goal.into_inputs-requires-clause-idle

@@ -4,9 +4,9 @@ use Rattle.std.specs.Bool.{IsTrue}
 use Rattle.std.specs.List.{AllByRecursion}
 use Rattle.std.proofs.lemmas.List.{take_all}
 use Rattle.vg_journeys.specs.Accounts.{HandoffFrame}
-use Rattle.vg_dispatch.specs.Queues.{Queue}
+use Rattle.vg_underway.specs.Queues.{Queue}
 use Rattle.vg_dispatch.specs.Workers.{IsIdle}
-use Rattle.vg_dispatch.proofs.PeerLemmas.{all_map_at, map_all}
+use Rattle.vg_underway.proofs.PeerLemmas.{all_map_at, map_all}
 use Rattle.vg_dispatch.proofs.workers.Worker.idle.Goals as goal
 
 pub returns-then-not-is_idle : goal.returns-then-not-is_idle

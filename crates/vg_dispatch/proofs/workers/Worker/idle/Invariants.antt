@@ -1,6 +1,6 @@
 use Rattle.std.proofs.Common.{◌≡◌, None, take}
 use Rattle.std.specs.List.{AllByRecursion}
-use Rattle.vg_dispatch.specs.Queues.{Queue}
+use Rattle.vg_underway.specs.Queues.{Queue}
 use Rattle.vg_dispatch.proofs.workers.Worker.idle.Given as goal
 
 abbrev pub invariant-loop-incoming : goal.invariant-loop-incoming

@@ -14,11 +14,11 @@ read places entries more first second moved all first_is second_is moved_is same
 pub invariant_of-result : goal.invariant_of-result
 invariant_of-result c =
     merged_logged c.self.inside.others.items c.other.inside.others.items c.append.new.self.items c.in-Ok.places c.self.inside.entries.items c.other.inside.entries.items _
-    (let is = c.in-Ok.ensures in let len = c.len.ensures in let ok = c.self.inside.others.ok.0 in omega (arith, is, len, ok)) c.in-Ok-append.ensures.items
-    (read c.in-Ok.places c.self.inside.entries.items c.other.inside.entries.items _ _ _ _ c.as_slice.ensures.value c.as_slice-2.ensures.value c.all_moved-more.ensures c.in-Ok-merged.ensures) c.self.invariant c.other.invariant
+    (let is = c.in-Ok.ensures in let len = c.len.ensures in let ok = c.self.inside.others.ok.0 in omega (arith, is, len, ok)) c.in_ok-append.ensures.items
+    (read c.in-Ok.places c.self.inside.entries.items c.other.inside.entries.items _ _ _ _ c.as_slice.ensures.value c.as_slice-2.ensures.value c.all_moved-more.ensures c.in_ok-entries.ensures) c.self.invariant c.other.invariant
 
 pub returns : goal.returns
 returns c =
     merged_fates c.self.inside.others.items c.other.inside.others.items c.append.new.self.items c.in-Ok.places c.self.inside.entries.items c.other.inside.entries.items _ _ _
-    (let is = c.in-Ok.ensures in let len = c.len.ensures in let ok = c.self.inside.others.ok.0 in omega (arith, is, len, ok)) c.in-Ok-append.ensures.items
-    (read c.in-Ok.places c.self.inside.entries.items c.other.inside.entries.items _ _ _ _ c.as_slice.ensures.value c.as_slice-2.ensures.value c.all_moved-more.ensures c.in-Ok-merged.ensures) c.self.invariant c.self.view_is c.other.view_is
+    (let is = c.in-Ok.ensures in let len = c.len.ensures in let ok = c.self.inside.others.ok.0 in omega (arith, is, len, ok)) c.in_ok-append.ensures.items
+    (read c.in-Ok.places c.self.inside.entries.items c.other.inside.entries.items _ _ _ _ c.as_slice.ensures.value c.as_slice-2.ensures.value c.all_moved-more.ensures c.in_ok-entries.ensures) c.self.invariant c.self.view_is c.other.view_is

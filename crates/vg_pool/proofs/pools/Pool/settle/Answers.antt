@@ -1,6 +1,7 @@
-use Rattle.std.proofs.Common.{◌∙◌, ◌+◌, ap, min}
+use Rattle.std.proofs.Common.{◌∙◌, ◌+◌, ap, sym, min, [], ◌∷◌, ◌++◌, map, length-append, arith}
+use Rattle.std.proofs.lemmas.List.{map-append}
 use Rattle.vg_pool.specs.Moves.{given_of}
-use Rattle.vg_pool.specs.Settlement.{most_told}
+use Rattle.vg_pool.specs.Settlement.{most_told, counts_of}
 use Rattle.vg_pool.proofs.SettleLemmas.{settle_one}
 use Rattle.vg_pool.proofs.pools.Pool.settle.Goals as goal
 
@@ -11,7 +12,16 @@ loop-cache-preserved g c =
     let cache = c.in-Some.cache in
     let shares = c.into_shares-cache_taken.ensures in
     let given = c.give.ensures in
-    let out = c.allocated.ensures ∙ ap (λ k. k.allocated) given.cache in
+    let yielded = c.loop-cache.yielded in
+    let invariant = c.loop-cache.invariant in
+    let counted = c.counts-count.ensures ∙ ap counts_of given.cache in
+    let out = ap (λ k. k.allocated) counted in
+    let counts =
+    c.push.ensures.items ∙ ap (λ l. l ++ c.counts-count.result ∷ []) invariant.1
+    ∙ ap (λ k. map counts_of yielded ++ k ∷ []) counted ∙ sym (map-append counts_of yielded (cache ∷ [])) in
+    let longer = length-append yielded (cache ∷ []) in
+    let pushed = c.push.ensures.len in
+    let before_it = invariant.2 in
     let told = c.saturating_add-allocated.ensures ∙ ap (λ n. min (c.loop-cache.allocated + n) most_told) out in
     rw (
       c.merge.ensures.parts,
@@ -24,9 +34,12 @@ loop-cache-preserved g c =
       c.merge-in-loop-cache.ensures.amount,
       shares.given.1,
       ap (λ k. k.given) given.cache,
+    ) (
+      (settle_one total c.args.self.now before c.give.new.self c.loop-cache.yielded cache c.give.result
+          c.loop-cache.taken.parts c.loop-cache.taken.amount c.loop-cache.given.parts c.loop-cache.given.amount
+          c.loop-cache.allocated c.saturating_add-allocated.result
+          invariant.0 c.len.ensures.kept told
+          (given.count ∙ ap (λ n. given_of total n before cache) c.len.ensures.len) given.pool),
+      counts,
+      omega (arith, longer, pushed, before_it),
     )
-    (settle_one total c.args.self.now before c.give.new.self c.loop-cache.yielded cache c.give.result
-    c.loop-cache.taken.parts c.loop-cache.taken.amount c.loop-cache.given.parts c.loop-cache.given.amount
-    c.loop-cache.allocated c.saturating_add-allocated.result
-    c.loop-cache.invariant c.len.ensures.kept told
-    (given.count ∙ ap (λ n. given_of total n before cache) c.len.ensures.len) given.pool)

@@ -1,7 +1,0 @@
-use Rattle.vg_dispatch.specs.Underway.{stationed}
-use Rattle.vg_dispatch.proofs.TakingLemmas.{IsTaking}
-use Rattle.vg_dispatch.proofs.underway.Work.take_frames.Given as goal
-
-abbrev pub invariant-places : goal.invariant-places
-invariant-places g l =
-    IsTaking (stationed g.K.KindSet.meaning l.fork.graph l.fork.generation l.fn.station) l.bounds l.tried l.fn.self l.fn.inputs l.place l.self l.inputs l.came

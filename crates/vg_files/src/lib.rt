@@ -1,0 +1,18 @@
+//! The files of a call: how they are loaded and read, what a check finds in its own, why a call is refused, and how its text is printed.
+//!
+//! [`load_files`] loads the capture, the script and the turns file of a run, and [`read_files`] says what they say, or why they are
+//! refused; [`load_checked`] and [`judge`] do the same for a check. [`Refusal`] has the exit status and the line of each refusal, and
+//! [`print`] writes a whole text to a sink.
+#![tactic(auto)]
+
+mod checking;
+mod loading;
+mod printing;
+mod reading;
+mod refusals;
+
+pub use checking::{CheckFiles, judge, load_checked};
+pub use loading::{Files, load_files};
+pub use printing::print;
+pub use reading::{Input, read_files, read_script};
+pub use refusals::{Refusal, Stop};

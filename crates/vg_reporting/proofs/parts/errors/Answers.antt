@@ -1,0 +1,13 @@
+use Rattle.std.specs.Prelude.{slice_get}
+use Rattle.vg_model.specs.Graph.{Node}
+use Rattle.vg_model.proofs.Journeys.{map_some}
+use Rattle.vg_reporting.proofs.CountLemmas.{made_more}
+use Rattle.vg_reporting.proofs.parts.errors.Goals as goal
+
+pub loop-n-preserved : goal.loop-n-preserved
+loop-n-preserved c =
+    let there = map_some (λ (node : Node). node.name) (slice_get c.args.graph.now.nodes c.loop-n.n) c.node_name.result.now c.node_name.ensures in
+    let more = made_more c.args.graph.now.nodes c.args.counts.now.drops c.loop-n.n there.0 there.1 in
+    let pushed = c.in_ok-put_errors.ensures in
+    let named = there.2 in
+    cc

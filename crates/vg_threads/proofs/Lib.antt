@@ -1,0 +1,4 @@
+pub mod TurnLemmas
+pub mod DecisionLemmas
+pub mod ThreadLemmas
+pub mod SendLemmas

@@ -1,0 +1,5 @@
+pub mod Turns
+pub mod Leads
+pub mod Renewals
+pub mod Ties
+pub mod Starts

@@ -1,0 +1,12 @@
+pub mod CheckLemmas
+pub mod CountedLoadLemmas
+pub mod ExpectedLemmas
+pub mod FileLemmas
+pub mod LoadScriptLemmas
+pub mod LosslessLemmas
+pub mod OutputLemmas
+pub mod RunLemmas
+pub mod SentLemmas
+pub mod TurnLemmas
+pub mod WordLemmas
+pub mod AcceptedLemmas

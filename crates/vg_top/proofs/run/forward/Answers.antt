@@ -1,0 +1,64 @@
+use Rattle.std.proofs.Common.{◌≡◌, ℕ, ◌<◌, ◌≤◌, ◌^◌, List, ap, subst, sym, ◌∙◌, length}
+use Rattle.std.specs.Prelude.{All}
+use Rattle.std.proofs.lemmas.List.{length-map}
+use Rattle.std.specs.List.{AllByRecursion}
+use Rattle.vg_model.specs.Visit.{ip4_visit}
+use Rattle.vg_model.specs.Journey.{longest_packet}
+use Rattle.vg_plan.specs.Plan.{first_generation}
+use Rattle.vg_engine.specs.Outcomes.{IsOutcome}
+use Rattle.vg_check.specs.Output.{frames_of}
+use Rattle.vg_top.specs.Reported.{reported}
+use Rattle.vg_top.proofs.SentLemmas.{are_within, fates_end}
+use Rattle.vg_top.proofs.OutputLemmas.{own, results_are, made_lawful, traced_within}
+use Rattle.vg_top.proofs.run.forward.Goals as goal
+
+pub savefile_of-requires : goal.savefile_of-requires
+savefile_of-requires g c =
+    let plan = c.args.input.now.plan in
+    let capture = c.args.input.now.capture in
+    let outcome = c.in_ok-outcome.outcome in
+    let options = c.args.options.now in
+    let is : IsOutcome ip4_visit c.args.hold plan.graphs (first_generation plan.script capture) capture options outcome = c.in_ok-outcome.ensures in
+    let within =
+    are_within options.workers (length (frames_of capture)) outcome.sent is.js is.are_sent
+    (own plan options capture outcome c.args.hold is c.requires.options c.generations-generations.ensures.plan).0
+    (subst (AllByRecursion (λ (p : ℕ × List ℕ). length p.1 ≤ longest_packet)) is.are_sent is.short) in
+    subst (λ n. All (λ (p : ℕ × List ℕ). (p.0 < n) × (length p.1 < 2 ^ 32)) outcome.sent) (length-map capture.packets (λ p. p.bytes)) within
+
+pub report-requires-clause-ends : goal.report-requires-clause-ends
+report-requires-clause-ends g c =
+    let plan = c.args.input.now.plan in
+    let capture = c.args.input.now.capture in
+    let outcome = c.in_ok-outcome.outcome in
+    let is : IsOutcome ip4_visit c.args.hold plan.graphs (first_generation plan.script capture) capture c.args.options.now outcome = c.in_ok-outcome.ensures in
+    fates_end outcome.last is.last is.last.routes is.js outcome.fates is.last_is is.are_fates is.ends
+
+pub report-requires-clause-traces : goal.report-requires-clause-traces
+report-requires-clause-traces g c = traced_within c.args.input.now.plan c.args.options.now c.args.input.now.capture c.in_ok-outcome.outcome c.args.hold c.in_ok-outcome.ensures
+
+pub write_report-requires : goal.write_report-requires
+write_report-requires g c =
+    let plan = c.args.input.now.plan in
+    let capture = c.args.input.now.capture in
+    let options = c.args.options.now in
+    let outcome = c.in_ok-outcome.outcome in
+    let is : IsOutcome ip4_visit c.args.hold plan.graphs (first_generation plan.script capture) capture options outcome = c.in_ok-outcome.ensures in
+    let made : c.in-Ok-report.report ≡ reported options (length plan.graphs) outcome =
+    c.in-Ok-report.ensures.report ∙ ap (λ n. reported options n outcome) c.generations-generations.ensures.graphs in
+    made_lawful plan options capture outcome c.args.hold is c.in-Ok-report.report c.requires.options c.generations-generations.ensures.plan
+    (sym c.generations-generations.ensures.graphs ∙ c.generations-generations.ensures.events) c.know_few.ensures made
+    c.in-Ok-report.ensures.interfaces c.in-Ok-report.ensures.nodes
+
+pub returns : goal.returns
+returns g c =
+    let plan = c.args.input.now.plan in
+    let options = c.args.options.now in
+    let outcome = c.in_ok-outcome.outcome in
+    let made : c.in-Ok-report.report ≡ reported options (length plan.graphs) outcome =
+    c.in-Ok-report.ensures.report ∙ ap (λ n. reported options n outcome) c.generations-generations.ensures.graphs in
+    let lawful =
+    made_lawful plan options c.args.input.now.capture outcome c.args.hold c.in_ok-outcome.ensures c.in-Ok-report.report c.requires.options c.generations-generations.ensures.plan
+    (sym c.generations-generations.ensures.graphs ∙ c.generations-generations.ensures.events) c.know_few.ensures made
+    c.in-Ok-report.ensures.interfaces c.in-Ok-report.ensures.nodes in
+    results_are plan options c.args.input.now.capture outcome c.args.hold c.in_ok-outcome.ensures c.in-Ok-report.report _ c.generations-generations.ensures.plan made lawful
+    c.in_ok-report.ensures c.in-Ok.ensures c.in-Ok-report.ensures.rests c.in-Ok-report.ensures.seat c.in-Ok-report.ensures.settled

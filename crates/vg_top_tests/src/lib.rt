@@ -1,0 +1,22 @@
+//! Tests of the top call, over folders and sinks in memory: beside the code they would have the whole crate proved once more. It is
+//! tests alone.
+#![tactic(auto)]
+
+#[cfg(test)]
+mod captures;
+#[cfg(test)]
+mod checks;
+#[cfg(test)]
+mod holds;
+#[cfg(test)]
+mod loads;
+#[cfg(test)]
+mod memory_runs;
+#[cfg(test)]
+mod refusals;
+#[cfg(test)]
+mod runs;
+#[cfg(test)]
+mod walked;
+#[cfg(test)]
+mod workers;

@@ -1,0 +1,14 @@
+pub mod OwnPackets
+pub mod Round
+pub mod SentEntries
+pub mod Underway
+pub mod Places
+pub mod Traced
+pub mod Works
+pub mod Hands
+pub mod Outlets
+pub mod Draws
+pub mod Rest
+pub mod Peers
+pub mod Queues
+pub mod Taking

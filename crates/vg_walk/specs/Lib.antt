@@ -1,4 +1,0 @@
-pub mod Packets
-pub mod Walks
-pub mod Tallies
-pub mod Legs

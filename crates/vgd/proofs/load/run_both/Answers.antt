@@ -1,7 +1,0 @@
-use Rattle.std.proofs.Common.{◌≡◌, ◌∙◌, ap, length}
-use Rattle.vgd.proofs.CountedLoadLemmas.{made_packets}
-use Rattle.vgd.proofs.load.run_both.Goals as goal
-
-pub returns-clause-ended : goal.returns-clause-ended
-returns-clause-ended g c =
-    c.in_ok-handoff.ensures.ended ∙ ap length c.in_ok-capture.ensures.made ∙ made_packets c.args.load.now.packets 0 c.args.load.now.seed

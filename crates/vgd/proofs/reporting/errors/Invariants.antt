@@ -1,6 +1,0 @@
-use Rattle.std.proofs.Common.{◌≡◌, take}
-use Rattle.vgd.specs.Reports.{all_made}
-use Rattle.vgd.proofs.reporting.errors.Given as goal
-
-abbrev pub invariant-loop-n : goal.invariant-loop-n
-invariant-loop-n l = l.entries.items ≡ all_made (take l.n l.graph.nodes) l.counts.drops

@@ -1,5 +1,0 @@
-use Rattle.std.proofs.Common.{◌≡◌, map, take}
-use Rattle.vgd.proofs.reporting.node_names.Given as goal
-
-abbrev pub invariant-loop-n : goal.invariant-loop-n
-invariant-loop-n l = l.names.items ≡ map (λ node. node.name) (take l.n l.graph.nodes)
