@@ -8,7 +8,6 @@ import time
 
 import inputs
 
-EVENTS = 200
 # how many packets a worker draws at once where the cost of a handed frame is measured, so that each turn hands one over
 BURST = 64
 
@@ -19,23 +18,38 @@ def main():
     processors = len(os.sched_getaffinity(0))
     with tempfile.TemporaryDirectory() as folder:
         os.chdir(folder)
-        scripts = {
-            'plain': inputs.table(),
-            'handoff': inputs.HANDOFF + inputs.table(),
-            'still': inputs.table(1),
-            'events': inputs.table(1) + inputs.events(EVENTS),
-        }
+        scripts = inputs.scripts()
         for name, text in scripts.items():
             with open(name, 'w') as file:
                 file.write(text)
         with open('capture', 'wb') as file:
             file.write(inputs.capture())
+        for name in scripts:
+            compare(vgd, name)
         best = measure(bench, vgd, rounds, runs)
     print('%d processors; each figure is the best of %d runs' % (processors, rounds * runs))
     forwarding(best)
     whole(best)
     holds(best)
     frames(best)
+
+
+def compare(vgd, graph):
+    """Runs of several workers are lawful, and save what one worker saves: none has both handoffs and events, so where a packet goes hangs on
+    no order of turns. Where no route changes that is what was worked out beside the program."""
+    saved = [saved_by(vgd, graph, workers) for workers in (1, 2, 4)]
+    wanted = inputs.sent() if graph in ('plain', 'handoff') else saved[0]
+    if any(data != wanted for data in saved):
+        sys.exit('a run of %s saves something else' % graph)
+
+
+def saved_by(vgd, graph, workers):
+    """What a run saves that vgd itself finds lawful."""
+    with open('report', 'wb') as report:
+        subprocess.run([vgd, 'run', '--hold', '--workers', str(workers), 'capture', graph, 'saved'], check=True, stdout=report)
+    subprocess.run([vgd, 'check', 'capture', graph, 'saved', 'report'], check=True, stdout=subprocess.DEVNULL)
+    with open('saved', 'rb') as file:
+        return file.read()
 
 
 def measure(bench, vgd, rounds, runs):
@@ -81,7 +95,7 @@ def holds(best):
     print('\nA hold of the barrier with an event that sets one route; microseconds')
     for workers in range(1, 9):
         cost = best['events', workers, 'threads', 256][1] - best['still', workers, 'threads', 256][1]
-        print('%7d %10.1f' % (workers, cost / EVENTS / 1000))
+        print('%7d %10.1f' % (workers, cost / inputs.EVENTS / 1000))
 
 
 def frames(best):

@@ -1,10 +1,10 @@
 -- What a tick keeps.
-use Rattle.std.proofs.Common.{◌≡◌, ℕ, ◌+◌, ◌≤◌, ◌⊎◌, ⊎_elim, inl, inr, List, [], ◌∷◌, ◌++◌, length, refl, sym, ap, ◌∙◌, subst, arith, append_assoc, length-append}
+use Rattle.std.proofs.Common.{◌≡◌, ℕ, ◌≤◌, ◌⊎◌, ⊎_elim, inl, inr, List, [], ◌∷◌, ◌++◌, length, refl, sym, ap, ◌∙◌, subst, arith, append_assoc, length-append}
 use Rattle.std.specs.Prelude.{Option, None, Some, option_to_list, MatchOption}
 use Rattle.std.proofs.lemmas.List.Sums.{sum_by-cons}
 use Rattle.vg_ring.specs.declared.ends.RingTx.{RingTx}
 use Rattle.vg_steps.specs.Trails.{found}
-use Rattle.vg_ring.specs.Ends.{put, head_seen, tx_slots, tx_trail, IsSameTx}
+use Rattle.vg_ring.specs.Ends.{put, head_seen, tx_trail, IsSameTx}
 use Rattle.vg_ring.specs.WordPlaces.{head_word, tail_word}
 use Rattle.vg_hands.specs.Filling.{GoesOn, EndsFull}
 use Rattle.vg_journeys.specs.Accounts.{HandoffFrame}

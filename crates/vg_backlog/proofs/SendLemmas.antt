@@ -8,7 +8,6 @@ use Rattle.vg_backlog.specs.contracts.backlogs.Backlog as Backlog
 use Rattle.vg_backlog.specs.contracts.backlogs.Backlog.TheInside as backlog
 use Rattle.vg_backlog.specs.contracts.waiting.Waiting as Waiting
 use Rattle.vg_backlog.specs.contracts.waiting.Waiting.TheInside as waiting
-use Rattle.vg_backlog.specs.contracts.waiting.Head as Head
 use Rattle.vg_hands.proofs.SendLemmas.{frame_send}
 use Rattle.vg_hands.specs.contracts.hand_frames.HandFrame as HandFrame
 use Rattle.vg_pool.proofs.SendLemmas.{buffer_send}

@@ -118,9 +118,7 @@ pub fn backlogs_of(
 ) -> Result<Vec<Backlog>, Memory>
     ensures { IfOk result (λ backlogs. backlogs.items ≡ map (empty_behind slots room) rings.items) }
 {
-    let Ok(mut backlogs) = Vec::with_capacity(alloc, rings.len()) else {
-        return Err(Memory);
-    };
+    let mut backlogs = Vec::with_capacity(alloc, rings.len())?;
     for ring in rings {
         let Ok(backlog) = Backlog::new(alloc, ring, slots, room) else {
             return Err(Memory);

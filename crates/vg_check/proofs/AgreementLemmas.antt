@@ -1,12 +1,10 @@
--- Lists that are compared place by place, and reports part by part.
-use Rattle.std.proofs.Common.{◌≡◌, ℕ, zero, suc, ◌+◌, ◌<◌, ◌≤◌, List, [], ◌∷◌, ◌++◌, length, map, get_or, take, refl, sym, ap, subst, ◌∙◌, arith}
+-- For `is_reported` and the comparisons that it calls: lists that are compared place by place, and reports part by part.
+use Rattle.std.proofs.Common.{◌≡◌, ℕ, zero, suc, ◌+◌, ◌<◌, ◌≤◌, List, [], ◌∷◌, ◌++◌, length, map, get_or, take, sym, ap, subst, ◌∙◌, arith}
 use Rattle.std.specs.Prelude.{Some, option_map, slice_get}
 use Rattle.std.proofs.lemmas.List.{take_all}
 use Rattle.std.proofs.lemmas.Option.{none-some, same_Some, slice_get-map, slice_get-get_or, slice_get_within, get_or_from_slice_get}
 use Rattle.vg_model.specs.declared.kinds.Interface.{Interface}
-use Rattle.vg_model.specs.declared.routes.Prefix.{Prefix}
-use Rattle.vg_model.specs.declared.routes.RouteTo.{RouteTo}
-use Rattle.vg_model.specs.Graph.{Graph, Node}
+use Rattle.vg_model.specs.Graph.{Graph, Node, with_routes}
 use Rattle.vg_model.specs.Journey.{Course}
 use Rattle.vg_replay.specs.declared.replaying.Replayed.{Replayed}
 use Rattle.vg_report.specs.declared.reports.PacketLine.{PacketLine}
@@ -82,11 +80,21 @@ AreParts g report replayed =
     × (report.packets ≡ lines_by g report.packets replayed.trips)
     × (report.traces ≡ map (λ (t : Course). map (node_name g) (trace_of t)) (take (length report.traces) replayed.trips))
 
+-- this graph is the last one, but for the routes
+abbrev pub IsLastOf : Graph → Replayed → Type 0
+IsLastOf g replayed = with_routes g replayed.last.routes replayed.last.routes6 ≡ replayed.last
+
+-- lines by this graph are lines by the last one
+lines_of_last : (g : Graph) (report : Report) (replayed : Replayed)
+    → lines_by g report.packets replayed.trips ≡ lines_by (with_routes g replayed.last.routes replayed.last.routes6) report.packets replayed.trips
+lines_of_last g report replayed = lines_with_routes g replayed.last.routes replayed.last.routes6 report.packets replayed.trips
+
 -- then the report is
-pub whole_report : (g : Graph) (routes : List (Prefix × RouteTo)) (report : Report) (replayed : Replayed) → record g { routes = routes } ≡ replayed.last → AreParts g report replayed → report ≡ reported report replayed
-whole_report g routes report replayed last h =
-    let with_routes : AreParts (record g { routes = routes }) report replayed = (h.0, h.1, h.2, h.3 ∙ lines_with_routes g routes report.packets replayed.trips, h.4) in
-    let parts : AreParts replayed.last report replayed = subst (λ (g : Graph). AreParts g report replayed) last with_routes in
+pub whole_report : (g : Graph) (report : Report) (replayed : Replayed) → IsLastOf g replayed → AreParts g report replayed → report ≡ reported report replayed
+whole_report g report replayed last h =
+    let whole : Graph = with_routes g replayed.last.routes replayed.last.routes6 in
+    let routed : AreParts whole report replayed = (h.0, h.1, h.2, h.3 ∙ lines_of_last g report replayed, h.4) in
+    let parts : AreParts replayed.last report replayed = subst (λ (g : Graph). AreParts g report replayed) last routed in
     λ i. record {
       workers = report.workers;
       buffers = report.buffers;
@@ -99,8 +107,9 @@ whole_report g routes report replayed last h =
     }
 
 -- and the other way round
-pub report_parts : (g : Graph) (routes : List (Prefix × RouteTo)) (report : Report) (replayed : Replayed) → record g { routes = routes } ≡ replayed.last → report ≡ reported report replayed → AreParts g report replayed
-report_parts g routes report replayed last e =
+pub report_parts : (g : Graph) (report : Report) (replayed : Replayed) → IsLastOf g replayed → report ≡ reported report replayed → AreParts g report replayed
+report_parts g report replayed last e =
+    let whole : Graph = with_routes g replayed.last.routes replayed.last.routes6 in
     let parts : AreParts replayed.last report replayed = (
       ap (λ (r : Report). r.interfaces) e,
       ap (λ (r : Report). r.nodes) e,
@@ -108,5 +117,5 @@ report_parts g routes report replayed last e =
       ap (λ (r : Report). r.packets) e,
       ap (λ (r : Report). r.traces) e,
     ) in
-    let with_routes : AreParts (record g { routes = routes }) report replayed = subst (λ (g : Graph). AreParts g report replayed) (sym last) parts in
-    (with_routes.0, with_routes.1, with_routes.2, with_routes.3 ∙ sym (lines_with_routes g routes report.packets replayed.trips), with_routes.4)
+    let routed : AreParts whole report replayed = subst (λ (g : Graph). AreParts g report replayed) (sym last) parts in
+    (routed.0, routed.1, routed.2, routed.3 ∙ sym (lines_of_last g report replayed), routed.4)

@@ -1,4 +1,4 @@
--- Under one generation any number of workers sends what one worker does.
+-- For `one_generation_sends_alike`: under one generation any number of workers sends what one worker does.
 use Rattle.std.proofs.Common.{◌≡◌, ℕ, zero, suc, ◌<◌, ◌≤◌, true, List, [], ◌∷◌, map, refl, sym, ap, subst, ◌∙◌, arith}
 use Rattle.std.specs.Prelude.{Option, Some, None, option_map, option_and_then, slice_get}
 use Rattle.std.specs.List.{AllByRecursion, cons_option}

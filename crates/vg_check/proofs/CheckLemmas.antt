@@ -1,4 +1,4 @@
--- From what came of packets to the verdict.
+-- For `check` and `verdict`: from what came of packets to the verdict.
 use Rattle.std.proofs.Common.{◌≡◌, ◌≢◌, ◌↔◌, ℕ, ◌<◌, ◌≤◌, Bool, true, false, List, [], ◌∷◌, length, refl, sym, ap, subst, ◌∙◌, arith}
 use Rattle.std.specs.Prelude.{Option, Some, None, Ok, Result, Err, IfOk, IsTrue, MatchOption}
 use Rattle.std.specs.List.{AllByRecursion}

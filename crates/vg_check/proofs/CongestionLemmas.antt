@@ -1,4 +1,4 @@
--- Where no queue refuses a packet, and no node drops one by congestion, no packet is dropped by congestion.
+-- For `lossless_queues_send_all`: where no queue refuses a packet, and no node drops one by congestion, no packet is dropped by congestion.
 use Rattle.std.proofs.Common.{◌≡◌, ◌≢◌, ℕ, zero, suc, Bool, true, false, List, [], ◌∷◌, length, map, refl, sym, subst}
 use Rattle.std.specs.Prelude.{Option, Some, None, option_map, nat_lt, slice_get, ◌%◌, ◌==◌, if◌then◌else◌}
 use Rattle.std.specs.List.{AllByRecursion}

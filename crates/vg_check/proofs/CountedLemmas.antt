@@ -1,4 +1,4 @@
--- Reports with a count at each drop by congestion, and their texts.
+-- For `verdict`: reports with a count at each drop by congestion, and their texts.
 use Rattle.std.proofs.Common.{◌≡◌, ◌↔◌, ℕ, suc, Bool, true, false, List, [], ◌∷◌, ◌++◌, length, map, refl, sym, ap, subst, ◌∙◌, arith}
 use Rattle.std.specs.Prelude.{Option, Some, None, IsSome, Result, Ok, codes, decimal, flat_map}
 use Rattle.std.specs.List.{AllByRecursion}

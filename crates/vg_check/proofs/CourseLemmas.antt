@@ -1,4 +1,4 @@
--- The steps of the IPv4 kinds, of which none drops by congestion; and journeys over several workers: how many legs they have and on which workers, and how many visits.
+-- For `ip4_never_congests`: the steps of the IPv4 kinds, of which none drops by congestion. And for `verdict`: how many legs a journey has and on which workers, and how many visits.
 use Rattle.std.proofs.Common.{◌≡◌, ◌≢◌, ℕ, zero, suc, ◌+◌, ◌*◌, ◌<◌, ◌≤◌, Bool, true, false, List, [], ◌∷◌, ◌++◌, length, take, refl, subst, arith, length-append}
 use Rattle.std.specs.Prelude.{Option, Some, None, option_map, unwrap_or, not, nat_lt, slice_get, if◌then◌else◌, ◌||◌, ◌==◌, ◌%◌}
 use Rattle.std.specs.List.{AllByRecursion}
@@ -9,6 +9,7 @@ use Rattle.vg_model.specs.declared.kinds.Kind.{Kind}
 use Rattle.vg_model.specs.declared.kinds.Kind.TheVariants as kinds
 use Rattle.vg_model.specs.declared.kinds.DropError.{DropError}
 use Rattle.vg_model.specs.declared.kinds.DropError.TheVariants as errors
+use Rattle.vg_model.specs.declared.kinds.HashKind.TheVariants.{Flow}
 use Rattle.vg_model.specs.declared.kinds.Step.{Step}
 use Rattle.vg_model.specs.declared.kinds.Step.TheVariants as steps
 use Rattle.vg_model.specs.declared.kinds.Adjacency.{Adjacency}
@@ -20,7 +21,7 @@ use Rattle.vg_model.specs.Bytes.{number16_at}
 use Rattle.vg_model.specs.Header.{verifies}
 use Rattle.vg_model.specs.Packet.{Packet, fresh}
 use Rattle.vg_model.specs.Graph.{Graph, arc, kind_at, pg_input, handoff_dequeue}
-use Rattle.vg_model.specs.Hash.{target_worker}
+use Rattle.vg_model.specs.Hash.{flow_hash, target_worker}
 use Rattle.vg_model.specs.Route.{best_route}
 use Rattle.vg_model.specs.Visit.{Visit, is_foreign, transmit_interface, dropped, next, header_fault, ip4_input, forwarded, over_interface, over_adjacency, visit_of, ip4_visit, datagram, destination, adjacency_of, version, header_len, total_len, time_to_live}
 use Rattle.vg_model.specs.Leg.{Outcome, Sent, Dropped, Handed, Way, Move, Onward, Over, handed, move_of, joined, after_visit, leg_within, most_legs, first_slot, ends_at}
@@ -82,11 +83,11 @@ own_input p = by_fault (header_fault (datagram p)) (own_fault (datagram p))
     by_fault None h = tt
     by_fault (Some error) h = h
 
-own_forwarded : (o : Option RouteTo) (p : Packet) → IsOwnStep (forwarded o p).0
-own_forwarded None p = λ e. cc
-own_forwarded (Some routes.Drop) p = λ e. cc
-own_forwarded (Some routes.Local) p = λ e. cc
-own_forwarded (Some (routes.Via a)) p = tt
+own_forwarded : (o : Option RouteTo) (hash : ℕ) (p : Packet) → IsOwnStep (forwarded o hash p).0
+own_forwarded None hash p = λ e. cc
+own_forwarded (Some routes.Drop) hash p = λ e. cc
+own_forwarded (Some routes.Local) hash p = λ e. cc
+own_forwarded (Some (routes.Via members)) hash p = tt
 
 own_over : (g : Graph) (o : Option Adjacency) (p : Packet) → IsOwnStep (over_adjacency g o p).0
 own_over g None p = λ e. cc
@@ -100,7 +101,9 @@ own_kind : (kind : Kind) (g : Graph) (p : Packet) → IsOwnStep (visit_of kind g
 own_kind kinds.EthernetInput g p =
     ethernet_by p (nat_lt (length p.bytes) 14) (unwrap_or (option_map (λ i. is_foreign i p.bytes) (slice_get g.interfaces 0)) true) (not (number16_at p.bytes 12 == 0x0800))
 own_kind kinds.Ip4Input g p = own_input p
-own_kind kinds.Ip4Lookup g p = unchecked_by p (not p.checked) (forwarded (best_route g.routes (destination (datagram p))) p) (own_forwarded (best_route g.routes (destination (datagram p))) p)
+own_kind kinds.Ip4Lookup g p =
+    let target = best_route g.routes (destination (datagram p)) in
+    unchecked_by p (not p.checked) (forwarded target (flow_hash Flow p.bytes) p) (own_forwarded target (flow_hash Flow p.bytes) p)
 own_kind kinds.Ip4Rewrite g p = unchecked_by p (not p.checked) (over_adjacency g (adjacency_of g p) p) (own_over g (adjacency_of g p) p)
 own_kind kinds.InterfaceOutput g p = output_by p (unwrap_or (option_map (λ i. i.up) (slice_get g.interfaces (transmit_interface g p))) true)
 own_kind kinds.InterfaceTx g p = tt
@@ -109,6 +112,14 @@ own_kind (kinds.WorkerHandoff hash) g p = tt
 own_kind kinds.ErrorDrop g p = λ e. cc
 own_kind kinds.PgInput g p = λ e. cc
 own_kind kinds.HandoffDequeue g p = λ e. cc
+own_kind kinds.EthernetDual g p = λ e. cc
+own_kind kinds.Ip6Input g p = λ e. cc
+own_kind kinds.Ip6Lookup g p = λ e. cc
+own_kind kinds.Ip6Rewrite g p = λ e. cc
+own_kind (kinds.Dot1qMatch id) g p = λ e. cc
+own_kind (kinds.Dot1qPush id) g p = λ e. cc
+own_kind (kinds.Dot1qRewrite id) g p = λ e. cc
+own_kind (kinds.CrossConnect interface) g p = λ e. cc
 
 -- the visits of the IPv4 kinds are such
 pub own_visit : NeverCongests ip4_visit

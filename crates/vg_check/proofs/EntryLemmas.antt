@@ -1,4 +1,4 @@
--- Lists of counts, entry by entry.
+-- For `interfaces`, `nodes`, `errors`, `put_errors` and `is_reported`: lists of counts, entry by entry.
 use Rattle.std.proofs.Common.{◌≡◌, ℕ, zero, suc, ◌+◌, ◌<◌, ◌≤◌, Bool, true, false, cond, List, [], ◌∷◌, ◌++◌, length, get_or, map, take, refl, sym, ap, ◌∙◌, arith, append-nil, append_assoc}
 use Rattle.std.specs.Prelude.{slice_get, slice_index, Some, filter, flat_map, nat_lt}
 use Rattle.std.specs.List.{enumerate_from}
@@ -11,8 +11,9 @@ use Rattle.vg_model.specs.Errors.{all_errors}
 use Rattle.vg_model.specs.declared.fates.End.{End}
 use Rattle.vg_model.specs.declared.fates.End.TheVariants as ends
 use Rattle.vg_model.specs.declared.routes.Prefix.{Prefix}
+use Rattle.vg_model.specs.declared.routes.Prefix6.{Prefix6}
 use Rattle.vg_model.specs.declared.routes.RouteTo.{RouteTo}
-use Rattle.vg_model.specs.Graph.{Graph, Node}
+use Rattle.vg_model.specs.Graph.{Graph, Node, with_routes}
 use Rattle.vg_model.specs.Journey.{Course, end_of}
 use Rattle.vg_report.specs.declared.reports.PacketLine.{PacketLine}
 use Rattle.vg_check.specs.Output.{named_end}
@@ -100,14 +101,15 @@ lines_more g (suc k) (l ∷ lines) (s ∷ trips) line t e h read =
     ∙ ap (λ ls. line_by g l.congested s ∷ ls) (lines_more g k lines trips line t e (omega (arith, h)) read)
 
 -- lines say nothing of routes
-pub lines_with_routes : (g : Graph) (routes : List (Prefix × RouteTo)) (lines : List PacketLine) (trips : List Course) → lines_by g lines trips ≡ lines_by (record g { routes = routes }) lines trips
-lines_with_routes g routes [] trips = refl
-lines_with_routes g routes (line ∷ lines) [] = refl
-lines_with_routes g routes (line ∷ lines) (t ∷ trips) =
-    let here : named_end g (end_of t.outcome) ≡ named_end (record g { routes = routes }) (end_of t.outcome) = same_end (end_of t.outcome) in
-    let later = lines_with_routes g routes lines trips in
+pub lines_with_routes : (g : Graph) (routes : List (Prefix × RouteTo)) (routes6 : List (Prefix6 × RouteTo)) (lines : List PacketLine) (trips : List Course)
+    → lines_by g lines trips ≡ lines_by (with_routes g routes routes6) lines trips
+lines_with_routes g routes routes6 [] trips = refl
+lines_with_routes g routes routes6 (line ∷ lines) [] = refl
+lines_with_routes g routes routes6 (line ∷ lines) (t ∷ trips) =
+    let here : named_end g (end_of t.outcome) ≡ named_end (with_routes g routes routes6) (end_of t.outcome) = same_end (end_of t.outcome) in
+    let later = lines_with_routes g routes routes6 lines trips in
     λ i. record { legs = t.legs; congested = line.congested; end = here i } ∷ later i
   where
-    same_end : (end : End) → named_end g end ≡ named_end (record g { routes = routes }) end
+    same_end : (end : End) → named_end g end ≡ named_end (with_routes g routes routes6) end
     same_end (ends.Tx interface) = refl
     same_end (ends.Dropped node error) = refl

@@ -1,4 +1,4 @@
--- What a journey has of its packet and its choice, and what it is like.
+-- For `verdict`, and for the laws of one generation and of lossless queues: what a journey has of its packet and its choice, and what it is like.
 use Rattle.std.proofs.Common.{◌≡◌, ◌↔◌, ℕ, suc, ◌+◌, ◌*◌, ◌<◌, ◌≤◌, Bool, true, false, List, [], ◌∷◌, length, map, refl, sym, ap, subst, ◌∙◌, arith, length-append}
 use Rattle.std.specs.Prelude.{Option, Some, None, option_map, IsSome, slice_get, ◌%◌, ◌==◌, ◌&&◌, ◌^◌, if◌then◌else◌}
 use Rattle.std.specs.List.{AllByRecursion}

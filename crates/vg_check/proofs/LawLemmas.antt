@@ -1,4 +1,4 @@
--- With one worker a run has one output.
+-- For `one_worker_leaves_no_choice`: with one worker a run has one output.
 use Rattle.std.proofs.Common.{◌≡◌, ℕ, List, sym, ap, subst, ◌∙◌, length}
 use Rattle.std.proofs.lemmas.Option.{same_Some}
 use Rattle.vg_model.specs.Graph.{Graph}

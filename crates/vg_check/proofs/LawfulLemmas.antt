@@ -1,4 +1,4 @@
--- The report of journeys under lawful choices is lawful, but for counts that drops by congestion lack, and whole where none lacks one.
+-- For `verdict`: the report of journeys under lawful choices is lawful, but for counts that drops by congestion lack, and whole where none lacks one.
 use Rattle.std.proofs.Common.{◌≡◌, ◌↔◌, ℕ, zero, suc, ◌+◌, ◌*◌, ◌<◌, ◌≤◌, ◌^◌, Bool, true, false, cond, List, [], ◌∷◌, ◌++◌, length, map, take, refl, sym, ap, subst, ◌∙◌, arith}
 use Rattle.std.specs.Prelude.{filter, flat_map, nat_lt, bytes_eq, slice_get, Option, Some, None, IsSome, IfSome, option_map, unwrap_or}
 use Rattle.std.specs.List.{AllByRecursion, IsDistinct, enumerate_from, position_from}

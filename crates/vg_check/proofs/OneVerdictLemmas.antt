@@ -1,4 +1,4 @@
--- Verdicts exclude one another: each point fails at one place, and where an earlier one fails.
+-- For `verdicts_exclude_one_another`: each point fails at one place, and where an earlier one fails.
 use Rattle.std.proofs.Common.{◌≡◌, ℕ, zero, suc, ◌<◌, List, [], ◌∷◌, take, refl, sym, ap, subst, ◌∙◌, inl, inr, arith}
 use Rattle.std.specs.Prelude.{Some, Result, Ok, Err, slice_get}
 use Rattle.std.specs.List.{AllByRecursion}

@@ -1,4 +1,4 @@
--- With one worker no leg is handed to another, so each packet has one leg, that of the generation of its time.
+-- For `one_worker_leaves_no_choice`: with one worker no leg is handed to another, so each packet has one leg, that of the generation of its time.
 use Rattle.std.proofs.Common.{◌≡◌, ℕ, zero, suc, ◌%◌, Bool, true, false, List, [], ◌∷◌, length, map, refl, sym, ap, subst, ◌∙◌}
 use Rattle.std.specs.Prelude.{Option, Some, None, option_map, nat_lt, slice_get, if◌then◌else◌}
 use Rattle.std.specs.List.{AllByRecursion}
@@ -12,7 +12,7 @@ use Rattle.vg_model.specs.Packet.{Packet, fresh}
 use Rattle.vg_model.specs.Graph.{Graph, arc, pg_input}
 use Rattle.vg_model.specs.Visit.{Visit}
 use Rattle.vg_model.specs.Leg.{Outcome, Sent, Dropped, Handed, Way, Move, Onward, Over, handed, move_of, joined, after_visit, leg_within, ends_at, first_slot}
-use Rattle.vg_model.specs.Journey.{Journey, Course, Choice, journey, journeys_from, started, goes_together, finished, first_leg, leg_from, legs_from, handed_over, last_leg}
+use Rattle.vg_model.specs.Journey.{Journey, Course, Choice, journey, journeys_from, started, goes_together, finished, first_leg, leg_from, legs_from, handed_over, last_leg, longest_packet}
 use Rattle.vg_model.specs.Lawful.{StartsAt}
 use Rattle.vg_model.proofs.Journeys.{map_some, then_some}
 use Rattle.vg_check.specs.OneWorker.{only_choice, only_choices}
@@ -51,7 +51,7 @@ here_within visit g leg_number (suc visits) node p way e =
 
 -- the first leg is handed to no other worker
 pub here_first : (visit : Visit) (g : Graph) (p : Packet) (way : Way) → first_leg visit g 1 0 p ≡ Some way → IsNotHanded way.outcome
-here_first visit g p way e = by_length (nat_lt 2048 (length p.bytes)) e
+here_first visit g p way e = by_length (nat_lt longest_packet (length p.bytes)) e
   where
     by_length : (long : Bool)
         → (if long then Some (ends_at pg_input p (Dropped pg_input errors.TooLong)) else leg_from visit g 1 0 1 pg_input pg_input p) ≡ Some way

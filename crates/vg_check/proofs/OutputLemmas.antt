@@ -1,4 +1,4 @@
--- The packet lines of a report name the choices that it was made by.
+-- For `one_generation_sends_alike`: the packet lines of a report name the choices that it was made by.
 use Rattle.std.proofs.Common.{◌≡◌, ℕ, List, [], ◌∷◌, map, refl, ap, ◌∙◌}
 use Rattle.std.specs.Prelude.{Some}
 use Rattle.vg_model.specs.Graph.{Graph}

@@ -1,4 +1,4 @@
--- How often packets were handed over, and the pushes that were refused.
+-- For `all_hands`, `first_unlawful` and what they call: how often packets were handed over, and the pushes that were refused.
 use Rattle.std.proofs.Common.{◌≡◌, ℕ, zero, suc, ◌+◌, ◌-◌, ◌*◌, ◌<◌, ◌≤◌, Bool, true, false, ◌==◌, ◌&&◌, List, [], ◌∷◌, ◌++◌, length, get_or, take, drop, refl, sym, ap, subst, ◌∙◌, inl, inr, arith}
 use Rattle.std.specs.Prelude.{Option, Some, slice_get, slice_index, slice_set, replicate, if◌then◌else◌}
 use Rattle.std.specs.List.{AllByRecursion}

@@ -1,4 +1,4 @@
--- The report of packets is that of their journeys.
+-- For `verdict`: the report of packets is that of their journeys.
 use Rattle.std.proofs.Common.{◌≡◌, ℕ, zero, suc, ◌+◌, ◌-◌, ◌*◌, ◌<◌, ◌≤◌, List, [], ◌∷◌, ◌++◌, length, map, take, refl, sym, ap, subst, ◌∙◌, arith, length-append}
 use Rattle.std.specs.Prelude.{Some, option_and_then, slice_get, slice_index, ◌==◌, filter, flat_map, nat_lt}
 use Rattle.std.specs.List.{AllByRecursion, enumerate_from}

@@ -1,4 +1,4 @@
--- Savefiles, record by record.
+-- For `are_records` and what it calls: savefiles, record by record.
 use Rattle.std.proofs.Common.{◌≡◌, ◌≢◌, ◌↔◌, ℕ, suc, ◌+◌, ◌<◌, List, [], ◌∷◌, ◌++◌, length, get_or, drop, Bor, refl, sym, ap, subst, ◌∙◌, arith, append_assoc, append-nil}
 use Rattle.std.specs.Prelude.{Option, Some, None, MatchOption, flat_map, option_map, unwrap_or, slice_get}
 use Rattle.std.proofs.Math.Seq.{drop-cons}

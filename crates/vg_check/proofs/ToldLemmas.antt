@@ -1,4 +1,4 @@
--- What is told of packets is that of their journeys.
+-- For `verdict`: what is told of packets is that of their journeys.
 use Rattle.std.proofs.Common.{◌≡◌, ℕ, zero, suc, ◌+◌, List, [], ◌∷◌, ◌++◌, length, map, take, refl, sym, ap, subst, ◌∙◌, arith}
 use Rattle.std.specs.Prelude.{Option, Some, None, option_map, slice_get, sum}
 use Rattle.std.proofs.lemmas.List.{length-map}

@@ -1,4 +1,4 @@
--- The checker says yes exactly where the report and the savefile are what a run may have put out.
+-- For `yes_is_exact` and `check`: the checker says yes exactly where the report and the savefile are what a run may have put out.
 use Rattle.std.proofs.Common.{◌≡◌, ◌↔◌, ℕ, zero, suc, List, [], ◌∷◌, length, map, take, refl, sym, ap, subst, ◌∙◌, arith}
 use Rattle.std.specs.Prelude.{Some, Result, Ok, Err}
 use Rattle.std.specs.List.{AllByRecursion}

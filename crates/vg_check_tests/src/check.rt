@@ -69,6 +69,12 @@ route 0.0.0.0/0 drop
 end
 ";
 
+/// The script that forwards each packet to one of two neighbors: of these frames to the second.
+const TWO: &str = "adjacency e0 interface pg0 dst 02:00:00:00:00:10
+adjacency e1 interface pg0 dst 02:00:00:00:00:11
+route 10.1.0.0/16 via e0,e1
+";
+
 /// Of three packets, the third of another type.
 const WIRED: &str = "vgd report 1
 workers 1
@@ -162,6 +168,26 @@ packet 0 0:0 tx pg0
 packet 1 0:0 tx pg0
 packet 2 0:1 drop ip4-lookup route-drop
 packet 3 0:1 drop ip4-lookup route-drop
+end
+";
+
+/// Of one packet that is forwarded.
+const PICKED: &str = "vgd report 1
+workers 1
+buffers 4096
+generations 1
+packets 1
+interface 0 pg0 tx 1
+node 0 pg-input 1
+node 1 handoff-dequeue 0
+node 2 ethernet-input 1
+node 3 ip4-input 1
+node 4 ip4-lookup 1
+node 5 ip4-rewrite 1
+node 6 interface-output 1
+node 7 interface-tx 1
+node 8 error-drop 0
+packet 0 0:0 tx pg0
 end
 ";
 
@@ -354,6 +380,21 @@ fn a_savefile_that_is_not_that_of_the_journeys_is_refused(rt: HostRuntime) -> Re
     assert_eq!(rt; found, Verdict::Tx);
     let found = verdict_of(alloc, HAND, &packets, 1, &packets, HANDED)?;
     assert_eq!(rt; found, Verdict::Tx);
+    Ok(())
+}
+
+/// What is answered where the frame has left for the neighbor whose address ends so.
+fn picked(alloc: Global, neighbor: u8) -> Result<Verdict, Fail> {
+    let mut sent = FORWARDED;
+    sent[5] = neighbor;
+    verdict_of(alloc, TWO, &[(0, FRAME)], 64, &[(0, sent)], PICKED)
+}
+
+#[test]
+fn a_frame_to_another_neighbor_than_its_flow_picks_is_refused(rt: HostRuntime) -> Result<(), Fail> {
+    let alloc = rt.alloc();
+    assert_eq!(rt; picked(alloc, 0x11)?, Verdict::Yes);
+    assert_eq!(rt; picked(alloc, 0x10)?, Verdict::Tx);
     Ok(())
 }
 

@@ -1,6 +1,6 @@
 -- What a round did, as contracts see it.
 use Rattle.std.proofs.Common.{◌≡◌, ◌≢◌, ℕ, zero, suc, ◌+◌, ◌-◌, ◌*◌, ◌%◌, ◌<◌, ◌≤◌, List, [], ◌∷◌, ◌++◌, length, map, get_or, take, refl, sym, ap, subst, ◌∙◌, arith}
-use Rattle.std.specs.Prelude.{Bool, true, false, Option, Some, None, ◌↔◌, min, vec_len}
+use Rattle.std.specs.Prelude.{Bool, true, false, Option, Some, None, ◌↔◌, ◌⊎◌, vec_len}
 use Rattle.std.specs.Bool.{MatchBool, IsTrue}
 use Rattle.std.specs.List.{sum_by, filter_map, AllByRecursion}
 use Rattle.std.proofs.lemmas.List.{length-map, nil_from_length}
@@ -20,10 +20,12 @@ use Rattle.vg_journeys.specs.Accounts.{HandoffFrame, Adds, frames_with, below}
 use Rattle.vg_dispatch.specs.declared.options.Options.{Options}
 use Rattle.vg_underway.specs.declared.underway.Work.{Work}
 use Rattle.vg_underway.specs.Peers.{place_among, by_worker}
-use Rattle.vg_underway.specs.Queues.{Intake, Queue, intake_of, Leaves, Tries, packets_in, bytes_in}
+use Rattle.vg_underway.specs.Queues.{Intake, Queue, intake_of, Leaves, Tries, packets_in, extents_in}
 use Rattle.vg_underway.specs.SentEntries.{sent_by, sent_size}
 use Rattle.vg_underway.specs.Outlets.{Outlet, outlet_with, no_outlet, most_in_round, IsTicked, ArePushes, if_congested, refused_at, dropped_in_all, PushesFrames}
 use Rattle.vg_underway.specs.Underway.{stationed}
+use Rattle.vg_underway.specs.OwnPackets.{frames_of}
+use Rattle.vg_underway.specs.Draws.{AreChained, LacksBuffers}
 use Rattle.vg_underway.specs.Taking.{MayTake, AreTaken, MayComeNext, AreTried}
 use Rattle.vg_dispatch.specs.Workers.{WorkerBook, IsOther, intake_from, account_of}
 use Rattle.vg_dispatch.specs.Standing.{run_of, IsAtWork}
@@ -106,17 +108,17 @@ module _ (book : WorkerBook) (number : ℕ) (options : Options) (outlets : List 
   )
 
 -- the next packets, as many as the burst and the cache allow
-pub all_drawn : (draws : Bool) (burst room asked most many limit mark : ℕ) → MatchBool draws (asked ≡ burst) (asked ≡ 0) → most ≡ min asked room → (many < most → limit ≤ mark) → IsTrue draws → many < burst → many < room → limit ≤ mark
-all_drawn true burst room asked most many limit mark so_many most_is all on one two = all (omega (arith, so_many, most_is, one, two))
-all_drawn false burst room asked most many limit mark so_many most_is all on one two = absurd (let k : false ≡ true = on in cc)
+pub all_drawn : {Stops : Type 0} (draws : Bool) (burst most many : ℕ) → MatchBool draws (most ≡ burst) (most ≡ 0) → (many < most → Stops) → IsTrue draws → many < burst → Stops
+all_drawn true burst most many so_many all on less = all (omega (arith, so_many, less))
+all_drawn false burst most many so_many all on less = absurd (let k : false ≡ true = on in cc)
 
-pub none_drawn_here : (draws : Bool) (burst room asked most many : ℕ) → MatchBool draws (asked ≡ burst) (asked ≡ 0) → most ≡ min asked room → many ≤ most → (IsTrue draws → ⊥) → many ≡ 0
-none_drawn_here true burst room asked most many so_many most_is few not = absurd (not refl)
-none_drawn_here false burst room asked most many so_many most_is few not = omega (arith, so_many, most_is, few)
+pub none_drawn_here : (draws : Bool) (burst most many : ℕ) → MatchBool draws (most ≡ burst) (most ≡ 0) → many ≤ most → (IsTrue draws → ⊥) → many ≡ 0
+none_drawn_here true burst most many so_many few not = absurd (not refl)
+none_drawn_here false burst most many so_many few not = omega (arith, so_many, few)
 
 -- the queue at a place was tried
 tries_at : (may : (packets bytes : ℕ) → HandoffFrame → Type 0) (p b : ℕ) (os ns : List Queue) (ts : List (List HandoffFrame)) (d : Queue) (k : ℕ) → k < length ts → AreTried may p b os ns ts
-    → Tries (may (p + sum_by packets_in (take k ts)) (b + sum_by bytes_in (take k ts))) (intake_of (get_or os k d)) (get_or ts k []) (intake_of (get_or ns k d))
+    → Tries (may (p + sum_by packets_in (take k ts)) (b + sum_by extents_in (take k ts))) (intake_of (get_or os k d)) (get_or ts k []) (intake_of (get_or ns k d))
 tries_at may p b os ns [] d k inside all = absurd (omega (arith, inside))
 tries_at may p b [] ns (t ∷ ts) d k inside all = absurd all
 tries_at may p b (o ∷ os) [] (t ∷ ts) d k inside all = absurd all
@@ -124,10 +126,10 @@ tries_at may p b (o ∷ os) (n ∷ ns) (t ∷ ts) d zero inside all =
     subst (λ x. Tries (may x (b + 0)) (intake_of o) t (intake_of n)) (let e : p ≡ p + 0 = omega arith in e) (subst (λ x. Tries (may p x) (intake_of o) t (intake_of n)) (let e : b ≡ b + 0 = omega arith in e) all.0)
 tries_at may p b (o ∷ os) (n ∷ ns) (t ∷ ts) d (suc k) inside all =
     let e : p + packets_in t + sum_by packets_in (take k ts) ≡ p + sum_by packets_in (take (suc k) (t ∷ ts)) = (let s = sum_by-cons packets_in t (take k ts) in omega (arith, s)) in
-    let f : b + bytes_in t + sum_by bytes_in (take k ts) ≡ b + sum_by bytes_in (take (suc k) (t ∷ ts)) = (let s = sum_by-cons bytes_in t (take k ts) in omega (arith, s)) in
-    subst (λ x. Tries (may x (b + sum_by bytes_in (take (suc k) (t ∷ ts)))) (intake_of (get_or os k d)) (get_or ts k []) (intake_of (get_or ns k d))) e
+    let f : b + extents_in t + sum_by extents_in (take k ts) ≡ b + sum_by extents_in (take (suc k) (t ∷ ts)) = (let s = sum_by-cons extents_in t (take k ts) in omega (arith, s)) in
+    subst (λ x. Tries (may x (b + sum_by extents_in (take (suc k) (t ∷ ts)))) (intake_of (get_or os k d)) (get_or ts k []) (intake_of (get_or ns k d))) e
     (subst (λ x. Tries (may (p + packets_in t + sum_by packets_in (take k ts)) x) (intake_of (get_or os k d)) (get_or ts k []) (intake_of (get_or ns k d))) f
-    (tries_at may (p + packets_in t) (b + bytes_in t) os ns ts d k (omega (arith, inside)) all.1))
+    (tries_at may (p + packets_in t) (b + extents_in t) os ns ts d k (omega (arith, inside)) all.1))
 
 -- what was taken before the frames of a worker
 sum_first : (f : ℕ → ℕ) (n : ℕ) → sum_by f (below (suc n)) ≡ f 0 + sum_by (λ k. f (suc k)) (below n)
@@ -226,8 +228,8 @@ sum_mapped [] = refl
 sum_mapped (q ∷ qs) = let rest = sum_mapped qs in omega (arith, rest, sum_by-cons packets_in q.taken (map (λ (q : Queue). q.taken) qs), sum_by-cons (λ (q : Queue). packets_in q.taken) q qs)
 
 -- what is known of a round beside what it brings: how its handoffs and its cache stand, what is tried and drawn, and what is pushed
-pub record IsGated (visit : Visit) (lossless : Bool) (told : List Settled → Type 0) (options : Options) (g : Graph) (generation limit number mark own left taken many most packets bytes tried more asked : ℕ) (goes draws : Bool) (took : List (List HandoffFrame)) (queues new_queues : List Queue)
-    (accepted new_accepted : List (List HandoffFrame)) (outlets ticked new_outlets : List Outlet) (work new : Work) (cache filled after last : CacheBook) : Type 0 where
+pub record IsGated (visit : Visit) (lossless : Bool) (told : List Settled → Type 0) (options : Options) (g : Graph) (generation limit number mark own left taken many most packets bytes tried more : ℕ) (goes draws : Bool) (took : List (List HandoffFrame)) (queues new_queues : List Queue)
+    (accepted new_accepted : List (List HandoffFrame)) (outlets ticked new_outlets : List Outlet) (work new : Work) (cache filled after last : CacheBook) (frames : List (List ℕ)) : Type 0 where
   pub own_mark : mark % options.workers ≡ number
   pub number_within : number < options.workers
   pub each : length ticked + 1 ≡ options.workers
@@ -246,9 +248,10 @@ pub record IsGated (visit : Visit) (lossless : Bool) (told : List Settled → Ty
   pub last_taken : last.taken ≡ after.taken
   pub last_allocated : last.allocated ≡ after.allocated
   pub last_freed : last.freed ≡ after.freed
-  pub asked_is : MatchBool draws (asked ≡ options.burst) (asked ≡ 0)
-  pub most_is : most ≡ min asked filled.len
-  pub all : many < most → limit ≤ mark_behind options.workers mark many
+  pub drawn_is : MatchBool draws (most ≡ options.burst) (most ≡ 0)
+  pub cached : ℕ
+  pub chained : AreChained options.workers mark many frames filled.len cached
+  pub all : many < most → (limit ≤ mark_behind options.workers mark many) ⊎ LacksBuffers frames (mark_behind options.workers mark many) cached
   pub pushed : (settled : List Settled) → told settled
       → PushesFrames options.workers options.queue lossless (by_worker number [] accepted) (by_worker number no_outlet ticked) work.fates.items (by_worker number [] new_accepted) (by_worker number no_outlet new_outlets) new.fates.items settled
 
@@ -256,11 +259,11 @@ pub round_did : {told : List Settled → Type 0} (visit : Visit) (lossless : Boo
     (generation limit number mark own left taken many most came_count came_bytes drew_bytes : ℕ) (took : List (List HandoffFrame)) (queues new_queues : List Queue)
     (accepted new_accepted : List (List HandoffFrame)) (slots : List ℕ) (work new : Work) (filled after : CacheBook)
     → IsRound visit lossless told plan capture options g generation limit number mark own left taken many most came_count came_bytes drew_bytes took queues new_queues accepted new_accepted slots work new filled after
-    → IsPlan plan → (packets bytes tried more asked : ℕ) (goes draws : Bool) (outlets ticked new_outlets : List Outlet) (cache last : CacheBook)
-    → IsGated visit lossless told options g generation limit number mark own left taken many most packets bytes tried more asked goes draws took queues new_queues accepted new_accepted outlets ticked new_outlets work new cache filled after last
+    → IsPlan plan → (packets bytes tried more : ℕ) (goes draws : Bool) (outlets ticked new_outlets : List Outlet) (cache last : CacheBook)
+    → IsGated visit lossless told options g generation limit number mark own left taken many most packets bytes tried more goes draws took queues new_queues accepted new_accepted outlets ticked new_outlets work new cache filled after last (frames_of capture.packets)
     → (old_book new_book : WorkerBook) (new_own new_left : ℕ) → IsBookOf old_book number options packets bytes mark own left queues accepted outlets work cache
     → IsBookOf new_book number options packets bytes (mark_behind options.workers mark many) new_own new_left new_queues new_accepted new_outlets new last → IsRoundOf (run_of visit plan capture options) lossless g generation limit old_book new_book
-round_did visit lossless plan capture options g generation limit number mark own left taken many most came_count came_bytes drew_bytes took queues new_queues accepted new_accepted slots work new filled after r planned packets bytes tried more asked goes draws outlets ticked new_outlets cache last
+round_did visit lossless plan capture options g generation limit number mark own left taken many most came_count came_bytes drew_bytes took queues new_queues accepted new_accepted slots work new filled after r planned packets bytes tried more goes draws outlets ticked new_outlets cache last
     k old_book new_book new_own new_left was is =
     let len_is : old_book.cache.len ≡ cache.len = ap (λ (b : CacheBook). b.len) was.cache_is in
     let options_are : old_book.options ≡ options = was.options_are in
@@ -271,7 +274,8 @@ round_did visit lossless plan capture options g generation limit number mark own
     let filled_len : filled.len ≡ cache.len + more = ap (λ (b : CacheBook). b.len) k.filled_is in
     let burst_is : old_book.options.burst ≡ options.burst = ap (λ (o : Options). o.burst) options_are in
     let mark_new : new_book.mark ≡ mark_behind options.workers mark many = is.mark_is in
-    let many_few = r.many_most in let most_is = k.most_is in let most_burst = r.most_burst in
+    let many_few = r.many_most in let most_burst = r.most_burst in
+    let cached_is : filled.len ≡ old_book.cache.len + more = omega (arith, filled_len, len_is) in
     let run : Run = run_of visit plan capture options in
     let old_account = account_from old_book number options packets bytes mark own left queues accepted outlets work cache filled was (ap (λ (b : CacheBook). b.allocated) k.filled_is) (ap (λ (b : CacheBook). b.freed) k.filled_is) in
     let new_account = account_from new_book number options packets bytes (mark_behind options.workers mark many) new_own new_left new_queues new_accepted new_outlets new last after is (sym k.last_allocated) (sym k.last_freed) in
@@ -294,13 +298,13 @@ round_did visit lossless plan capture options g generation limit number mark own
           omega (arith, e1, e2, e3, e4, e5));
       draws = many;
       burst = omega (arith, many_few, most_burst, burst_is);
-      buffers = (let second = min_least asked filled.len in omega (arith, many_few, most_is, second, filled_len, len_is));
+      left = k.cached;
+      buffers = subst (λ (x : Options). AreChained x.workers old_book.mark many run.packets (old_book.cache.len + more) k.cached) (sym options_are)
+          (subst (λ m. AreChained options.workers m many run.packets (old_book.cache.len + more) k.cached) (sym was.mark_is) (subst (λ n. AreChained options.workers mark many run.packets n k.cached) cached_is k.chained));
       mark = mark_new ∙ ap (λ m. mark_behind options.workers m many) (sym was.mark_is) ∙ ap (λ (x : Options). mark_behind x.workers old_book.mark many) (sym options_are);
       below = λ i inside. subst (λ (x : Options). mark_behind x.workers old_book.mark i < limit) (sym options_are) (subst (λ m. mark_behind options.workers m i < limit) (sym was.mark_is) (below_each options.workers mark limit many i r.below inside));
-      all = λ may one two.
-          let limited = all_drawn draws options.burst filled.len asked most many limit (mark_behind options.workers mark many) k.asked_is k.most_is k.all (may_draw.1 may) (omega (arith, one, burst_is)) (omega (arith, two, filled_len, len_is)) in
-          omega (arith, limited, mark_new);
-      none = λ not. none_drawn_here draws options.burst filled.len asked most many k.asked_is k.most_is r.many_most (λ on. not (may_draw.0 on));
+      all = λ may less. subst (λ m. (limit ≤ m) ⊎ LacksBuffers run.packets m k.cached) (sym mark_new) (all_drawn draws options.burst most many k.drawn_is k.all (may_draw.1 may) (omega (arith, less, burst_is)));
+      none = λ not. none_drawn_here draws options.burst most many k.drawn_is r.many_most (λ on. not (may_draw.0 on));
       trips = added.0;
       adds = subst (λ a. Adds run a (account_of new_book) added.0) (sym old_account) (subst (λ a. Adds run (account_with number mark (by_worker number [] (map (λ (q : Queue). q.taken) queues)) (by_worker number [] accepted) work filled) a added.0) (sym new_account) added.1);
       under = added.2;
@@ -326,15 +330,12 @@ round_did visit lossless plan capture options g generation limit number mark own
       refused = λ to count. added.4 (refused_at count to) ∙ pushed.refused to count;
     }
   where
-    min_least : (a b : ℕ) → min a b ≤ b
-    min_least a b = omega arith
-
     public_may : (from : ℕ) → from ≢ number → from < length took + 1 → number ≤ length took → (frame : HandoffFrame)
         → MayComeNext (stationed visit g generation (record { workers = options.workers; worker = number; slots = options.queue })) (record { packets = packets; bytes = bytes; own = own; left = left; taken = taken }) (length work.fates.items) (vec_len work.bytes)
-        (0 + sum_by packets_in (take (place_among number from) took)) (0 + sum_by bytes_in (take (place_among number from) took)) frame ↔ MayTakeFrom g generation old_book (by_worker number [] took) from frame
+        (0 + sum_by packets_in (take (place_among number from) took)) (0 + sum_by extents_in (take (place_among number from) took)) frame ↔ MayTakeFrom g generation old_book (by_worker number [] took) from frame
     public_may from other inside here frame =
         let ps = before_is packets_in refl number from took other inside here in
-        let bs = before_is bytes_in refl number from took other inside here in
+        let bs = before_is extents_in refl number from took other inside here in
         let t1 = ap (sum_by packets_in) was.taken_is in let t2 = sum_by_worker packets_in refl number (map (λ (q : Queue). q.taken) queues) in let t3 = sum_mapped queues in let t4 = k.taken_is in
         let l1 = ap length was.log_is in
         let s1 = ap (sum_by sent_size) was.sent_is in let s2 = k.sent_is in
@@ -380,7 +381,7 @@ round_did visit lossless plan capture options g generation limit number mark own
         (sym (intake_at new_book number options packets bytes (mark_behind options.workers mark many) new_own new_left new_queues new_accepted new_outlets new last is from d apart (omega (arith, inside, longer)) (omega (arith, here, longer))))
         (subst (λ fs. Tries (MayTakeFrom g generation old_book (by_worker number [] took) from) (intake_of (get_or queues (place_among number from) d)) fs (intake_of (get_or new_queues (place_among number from) d)))
         (sym (peers_at number from [] took [] apart (omega (arith, here, size))))
-        (tries_same (next (0 + sum_by packets_in (take (place_among number from) took)) (0 + sum_by bytes_in (take (place_among number from) took))) (MayTakeFrom g generation old_book (by_worker number [] took) from) (λ frame. (may frame).0) (λ frame. (may frame).1)
+        (tries_same (next (0 + sum_by packets_in (take (place_among number from) took)) (0 + sum_by extents_in (take (place_among number from) took))) (MayTakeFrom g generation old_book (by_worker number [] took) from) (λ frame. (may frame).0) (λ frame. (may frame).1)
         (intake_of (get_or queues (place_among number from) d)) (intake_of (get_or new_queues (place_among number from) d)) (get_or took (place_among number from) []) found)))) (omega (arith, place))
       where
         at : {P : Type 0} (qs : List Queue) → (Queue → P) → 0 < length qs → P
@@ -405,16 +406,16 @@ round_did visit lossless plan capture options g generation limit number mark own
 pub did_here : {told : List Settled → Type 0} (visit : Visit) (lossless : Bool) (plan : Planned) (capture : Capture) (run : Options) {v w new_book : WorkerBook} → v ≡ w → IsAtWork visit lossless plan capture run w → (g : Graph) (generation limit shown : ℕ) → limit ≡ shown
     → (taken many most came_count came_bytes drew_bytes : ℕ) (took : List (List HandoffFrame)) (queues new_queues : List Queue) (accepted new_accepted : List (List HandoffFrame)) (slots : List ℕ) (work new : Work) (filled after : CacheBook)
     → IsRound visit lossless told plan capture v.options g generation limit v.number v.mark v.own v.left taken many most came_count came_bytes drew_bytes took queues new_queues accepted new_accepted slots work new filled after
-    → (tried more asked : ℕ) (goes draws : Bool) (outlets ticked new_outlets : List Outlet) (cache last : CacheBook)
-    → IsGated visit lossless told v.options g generation limit v.number v.mark v.own v.left taken many most v.packets v.bytes tried more asked goes draws took queues new_queues accepted new_accepted outlets ticked new_outlets work new cache filled after last
+    → (tried more : ℕ) (goes draws : Bool) (outlets ticked new_outlets : List Outlet) (cache last : CacheBook)
+    → IsGated visit lossless told v.options g generation limit v.number v.mark v.own v.left taken many most v.packets v.bytes tried more goes draws took queues new_queues accepted new_accepted outlets ticked new_outlets work new cache filled after last (frames_of capture.packets)
     → (new_own new_left : ℕ) → IsBookOf v v.number v.options v.packets v.bytes v.mark v.own v.left queues accepted outlets work cache
     → IsBookOf new_book v.number v.options v.packets v.bytes (mark_behind v.options.workers v.mark many) new_own new_left new_queues new_accepted new_outlets new last → IsRoundOf (run_of visit plan capture run) lossless g generation shown w new_book
 did_here visit lossless plan capture run {v} {w} {new_book} is at_work g generation limit shown same taken many most came_count came_bytes drew_bytes took queues new_queues accepted new_accepted slots work new filled
-    after r tried more asked goes draws outlets ticked new_outlets cache last k new_own new_left was becomes =
+    after r tried more goes draws outlets ticked new_outlets cache last k new_own new_left was becomes =
     let before : IsAtWork visit lossless plan capture run v = subst (IsAtWork visit lossless plan capture run) (sym is) at_work in
     subst (λ n. IsRoundOf (run_of visit plan capture run) lossless g generation n w new_book) same
     (subst (λ x. IsRoundOf (run_of visit plan capture run) lossless g generation limit x new_book) is
     (subst (λ o. IsRoundOf (run_of visit plan capture o) lossless g generation limit v new_book) before.made.options_are
     (round_did visit lossless plan capture v.options g generation limit v.number v.mark v.own v.left taken many most came_count came_bytes drew_bytes took queues new_queues accepted new_accepted slots work new filled
-    after r at_work.planned v.packets v.bytes tried more asked goes draws outlets ticked new_outlets
+    after r at_work.planned v.packets v.bytes tried more goes draws outlets ticked new_outlets
     cache last k v new_book new_own new_left was becomes)))

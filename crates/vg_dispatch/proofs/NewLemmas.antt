@@ -19,7 +19,7 @@ use Rattle.vg_nodes.specs.Sorting.{nothing_sorted}
 use Rattle.vg_dispatch.specs.declared.options.Options.{Options}
 use Rattle.vg_underway.specs.declared.underway.Work.{Work}
 use Rattle.vg_capture.specs.declared.captures.Captured.{Captured}
-use Rattle.vg_underway.specs.OwnPackets.{own_from, captured_bytes}
+use Rattle.vg_underway.specs.OwnPackets.{own_from, received_extent, captured_extent}
 use Rattle.vg_dispatch.specs.Progress.{AreInRange}
 use Rattle.vg_underway.specs.SentEntries.{sent_by}
 use Rattle.vg_underway.specs.Rest.{IsNew}
@@ -136,11 +136,11 @@ map_map f g [] = refl
 map_map f g (x ∷ xs) = ap (λ ys. g (f x) ∷ ys) (map_map f g xs)
 
 -- a worker's own packets are among all
-pub own_among : (workers number : ℕ) (packets : List Captured) → (length (own_from workers number packets) ≤ length packets) × (captured_bytes (own_from workers number packets) ≤ captured_bytes packets)
+pub own_among : (workers number : ℕ) (packets : List Captured) → (length (own_from workers number packets) ≤ length packets) × (captured_extent (own_from workers number packets) ≤ captured_extent packets)
 own_among workers number packets =
     let few = own_fewer workers 0 (drop number packets) in
     let light = own_lighter workers 0 (drop number packets) in
-    let part = sum_by-take-drop (λ (c : Captured). length c.bytes) packets number in
+    let part = sum_by-take-drop received_extent packets number in
     (omega (arith, few, length-drop number packets), omega (arith, light, part))
 
 -- what holds of all that a function gives

@@ -18,8 +18,8 @@ use Rattle.vg_capture.specs.declared.captures.Captured.{Captured}
 use Rattle.vg_pool.specs.Moves.{most_cached}
 use Rattle.vg_plan.specs.Plan.{Planned, IsPlan, IsGeneration, limit_of, first_generation}
 use Rattle.vg_journeys.specs.Chains.{count_some}
-use Rattle.vg_journeys.specs.Trips.{Run, Arrival, Drawn, Taken, Trip, contents_after, logged_by}
-use Rattle.vg_journeys.specs.Accounts.{HandoffFrame, Account, Adds, frame_arrivals, arrivals_in, frames_with, below, is_drawn}
+use Rattle.vg_journeys.specs.Trips.{Run, Arrival, Drawn, Taken, Trip, contents_after, logged_by, pieces_before}
+use Rattle.vg_journeys.specs.Accounts.{HandoffFrame, Account, Adds, frame_arrivals, arrivals_in, frames_with, below, drawn_pieces}
 use Rattle.vg_journeys.specs.Moments.{StandsFor, begun}
 use Rattle.vg_journeys.specs.Turns.{Settled, settled_log, settled_onward, MayBeRefused, IsTurn}
 use Rattle.vg_journeys.specs.Windows.{next_draws, mark_behind}
@@ -30,10 +30,10 @@ use Rattle.vg_underway.specs.declared.stations.Station.{Station}
 use Rattle.vg_underway.specs.declared.underway.Work.{Work}
 use Rattle.vg_underway.specs.Peers.{by_worker}
 use Rattle.vg_underway.specs.Queues.{Queue, packets_in}
-use Rattle.vg_underway.specs.OwnPackets.{own_from, captured_bytes, frames_of}
+use Rattle.vg_underway.specs.OwnPackets.{own_from, received_extent, captured_extent, frames_of}
 use Rattle.vg_underway.specs.Round.{place_in}
 use Rattle.vg_underway.specs.Underway.{Setting, IsSetting, stationed}
-use Rattle.vg_underway.specs.Draws.{AreBelow, IsReady, arrival_len, arrival_bytes}
+use Rattle.vg_underway.specs.Draws.{AreBelow, IsReady, arrival_extent, arrivals_extent}
 use Rattle.vg_underway.specs.Works.{IsRightlyRefused}
 use Rattle.vg_journeys.specs.Counts.{IsCountIn}
 use Rattle.vg_underway.specs.Hands.{Delivers}
@@ -43,11 +43,12 @@ use Rattle.vg_dispatch.specs.Standing.{run_of, traced_of, IsAtWork, NoneCongeste
 use Rattle.vg_dispatch.specs.Keeping.{IsKeeping}
 use Rattle.vg_nodes.specs.declared.sorted.Sorted.{Sorted}
 use Rattle.vg_nodes.specs.Sorting.{nothing_sorted}
-use Rattle.vg_underway.specs.Taking.{MayTake, taken_arrivals, AreTaken}
-use Rattle.vg_underway.proofs.WorkLemmas.{all_append, logged_most}
+use Rattle.vg_underway.specs.Taking.{MayTake, taken_arrivals, AreTaken, most_in_frame}
+use Rattle.vg_underway.proofs.DrawLemmas.{drawn_pieces_most, held_most}
+use Rattle.vg_underway.proofs.WorkLemmas.{all_append}
 use Rattle.vg_underway.proofs.RestLemmas.{IsOver, account_with, turn_of, rest_after, ready_of, no_buffer_left}
 use Rattle.vg_underway.proofs.OwnLemmas.{own_first, below_there}
-use Rattle.vg_underway.proofs.TakingLemmas.{none_drawn, taken_length, taken_packets}
+use Rattle.vg_underway.proofs.TakingLemmas.{none_drawn, taken_length, taken_packets, chains_taken}
 use Rattle.vg_underway.proofs.PeerLemmas.{map_at}
 use Rattle.vg_dispatch.proofs.ComeLemmas.{came_in_round, own_all, mark_own, time_all}
 
@@ -63,15 +64,18 @@ setting_of visit plan g generation station kinds is there =
     let sound : IsGeneration g = all_slice IsGeneration plan.graphs generation g is.generations there in
     record { kinds = kinds; valid = sound.valid; few_nodes = sound.few_nodes; few_interfaces = sound.few_interfaces }
 
--- the packets that are drawn
-pub draws_length : (workers mark many : ℕ) (packets : List (List ℕ)) → (length (next_draws workers mark many packets) ≡ many) × (sum_by is_drawn (next_draws workers mark many packets) ≡ many)
+-- the packets that are drawn: so many, and each has the chain that it took
+pub draws_length : (workers mark many : ℕ) (packets : List (List ℕ)) → (length (next_draws workers mark many packets) ≡ many)
+    × (sum_by drawn_pieces (next_draws workers mark many packets) ≡ sum_by pieces_before (next_draws workers mark many packets))
 draws_length workers mark zero packets = (refl, refl)
 draws_length workers mark (suc many) packets =
     let rest = draws_length workers (mark + workers) many packets in
-    (ap suc rest.0, (let e = rest.1 in omega (arith, e, sum_by-cons is_drawn (Drawn mark (get_or packets mark [])) (next_draws workers (mark + workers) many packets))))
+    let first : Arrival = Drawn mark (get_or packets mark []) in
+    let others : List Arrival = next_draws workers (mark + workers) many packets in
+    (ap suc rest.0, (let e = rest.1 in omega (arith, e, sum_by-cons drawn_pieces first others, sum_by-cons pieces_before first others)))
 
 pub draws_weight : (workers mark limit many : ℕ) (packets : List Captured) → 0 < workers → limit ≤ length packets → AreBelow workers mark limit many
-    → (arrival_bytes (next_draws workers mark many (frames_of packets)) ≡ captured_bytes (take many (own_from workers mark packets))) × (many ≤ length (own_from workers mark packets))
+    → (arrivals_extent (next_draws workers mark many (frames_of packets)) ≡ captured_extent (take many (own_from workers mark packets))) × (many ≤ length (own_from workers mark packets))
 draws_weight workers mark limit zero packets some within all = (refl, omega arith)
 draws_weight workers mark limit (suc many) [] some within all = absurd (let h = all.0 in omega (arith, h, within))
 draws_weight workers mark limit (suc many) (p ∷ ps) some within all =
@@ -81,10 +85,10 @@ draws_weight workers mark limit (suc many) (p ∷ ps) some within all =
     let x : Captured = get_or (p ∷ ps) mark p in
     let bytes : get_or (frames_of (p ∷ ps)) mark [] ≡ x.bytes = map_at (λ (c : Captured). c.bytes) (p ∷ ps) mark x [] here (get_self (p ∷ ps) mark p here) in
     let e = rest.0 in let n = rest.1 in
-    let w1 = sum_by-cons arrival_len (Drawn mark (get_or (frames_of (p ∷ ps)) mark [])) (next_draws workers (mark + workers) many (frames_of (p ∷ ps))) in
-    let w2 = sum_by-cons (λ (c : Captured). length c.bytes) x (take many (own_from workers (mark + workers) (p ∷ ps))) in
+    let w1 = sum_by-cons arrival_extent (Drawn mark (get_or (frames_of (p ∷ ps)) mark [])) (next_draws workers (mark + workers) many (frames_of (p ∷ ps))) in
+    let w2 = sum_by-cons received_extent x (take many (own_from workers (mark + workers) (p ∷ ps))) in
     let len = ap length bytes in
-    let w3 = ap (λ xs. captured_bytes (take (suc many) xs)) first in
+    let w3 = ap (λ xs. captured_extent (take (suc many) xs)) first in
     let l = ap length first in
     (omega (arith, e, w1, w2, w3, len), omega (arith, n, l))
   where
@@ -95,20 +99,22 @@ draws_weight workers mark limit (suc many) (p ∷ ps) some within all =
 
 -- there is room for the packets that come in a round
 pub ready_in_round : (packets bytes came own left workers mark limit tried many most took_count took_bytes : ℕ) (took : List Arrival) (items : List Captured) (w : Work) (cache : CacheBook) → IsAtRest packets bytes came own left w → 0 < workers → tried ≤ 7 → most ≤ 256
-    → limit ≤ length items → many ≤ most → AreBelow workers mark limit many → own ≡ length (own_from workers mark items) → left ≡ captured_bytes (own_from workers mark items)
-    → length took ≡ took_count → arrival_bytes took ≡ took_bytes → sum_by is_drawn took ≡ 0 → took_count ≤ 256 * tried → length w.fates.items + took_count + own ≤ packets → vec_len w.bytes + took_bytes + left ≤ bytes → most ≤ cache.len → cache.len + 256 * tried ≤ most_cached
+    → limit ≤ length items → many ≤ most → AreBelow workers mark limit many → own ≡ length (own_from workers mark items) → left ≡ captured_extent (own_from workers mark items)
+    → length took ≡ took_count → arrivals_extent took ≡ took_bytes → sum_by pieces_before took ≤ 5 * length took → took_count ≤ 256 * tried → length w.fates.items + took_count + own ≤ packets
+    → vec_len w.bytes + took_bytes + left ≤ bytes → cache.len + most_in_frame * tried ≤ most_cached
     → cache.allocated < 2 ^ 61 → cache.freed < 2 ^ 61 → IsReady (took ++ next_draws workers mark many (frames_of items)) w cache
-ready_in_round packets bytes came own left workers mark limit tried many most took_count took_bytes took items w cache rest some few burst within so_many below own_is left_is count weight none tries fates fits buffers cached allocated freed =
+ready_in_round packets bytes came own left workers mark limit tried many most took_count took_bytes took items w cache rest some few burst within so_many below own_is left_is count weight chains tries fates fits cached allocated freed =
     let draws = draws_length workers mark many (frames_of items) in
     let d0 = draws.0 in let d1 = draws.1 in
     let heavy = draws_weight workers mark limit many items some within below in
     let h0 = heavy.0 in let h1 = heavy.1 in
     let n = length-append took (next_draws workers mark many (frames_of items)) in
-    let b = sum_by-append arrival_len took (next_draws workers mark many (frames_of items)) in
-    let d = sum_by-append is_drawn took (next_draws workers mark many (frames_of items)) in
-    let part = sum_by-take-drop (λ (c : Captured). length c.bytes) (own_from workers mark items) many in
+    let b = sum_by-append arrival_extent took (next_draws workers mark many (frames_of items)) in
+    let d = sum_by-append drawn_pieces took (next_draws workers mark many (frames_of items)) in
+    let e = sum_by-append pieces_before took (next_draws workers mark many (frames_of items)) in
+    let part = sum_by-take-drop received_extent (own_from workers mark items) many in
     ready_of packets bytes came own left (took ++ next_draws workers mark many (frames_of items)) w cache rest (omega (arith, n, d0, count, tries, few, so_many, burst)) (omega (arith, n, d0, count, fates, h1, own_is))
-    (omega (arith, b, h0, weight, fits, part, left_is)) (omega (arith, d, d1, none, so_many, buffers)) (omega (arith, d, d1, none, n, d0, count, tries, cached)) allocated freed
+    (omega (arith, b, h0, weight, fits, part, left_is)) (omega (arith, d, e, d1, chains, count, tries, cached)) allocated freed
 
 -- no packet that is logged has a count where handoffs refuse nothing
 none_logged : (slots : ℕ) (lossless : Bool) (old new : List (List HandoffFrame)) (settled : List Settled) → lossless ≡ true → AllByRecursion IsRightlyRefused settled → AllByRecursion (λ x. IsCountIn slots lossless old new x.ended.outcome x.refused) settled
@@ -126,7 +132,8 @@ none_logged slots lossless old new (x ∷ xs) is may all = one x.ended.outcome x
 pub round_adds : {told : List Settled → Type 0} (visit : Visit) (lossless : Bool) (plan : Planned) (capture : Capture) (options : Options) (g : Graph) (generation number mark many limit : ℕ)
     (queues new_queues : List Queue) (took : List (List HandoffFrame)) (accepted new_accepted : List (List HandoffFrame))
     (work new : Work) (filled after : CacheBook) → IsKindSet visit → IsPlan plan → slice_get plan.graphs generation ≡ Some g → mark % options.workers ≡ number → AreTaken queues new_queues took → length took + 1 ≤ options.workers
-    → AllByRecursion (AllByRecursion (MayTake g generation)) took → limit ≤ limit_of plan.script capture generation → limit ≤ length capture.packets → ((earlier : ℕ) → suc earlier ≡ generation → limit_of plan.script capture earlier ≤ mark) → AreBelow options.workers mark limit many
+    → AllByRecursion (AllByRecursion (MayTake g generation)) took → limit ≤ limit_of plan.script capture generation → limit ≤ length capture.packets
+    → ((earlier : ℕ) → suc earlier ≡ generation → limit_of plan.script capture earlier ≤ mark) → AreBelow options.workers mark limit many
     → (over : IsOver (stationed visit g generation (record { workers = options.workers; worker = number; slots = options.queue })) options.queue lossless told (taken_arrivals number took ++ next_draws options.workers mark many (frames_of capture.packets))
     work filled (by_worker number [] accepted) new after (by_worker number [] new_accepted))
     → (trips : List Trip) × Adds (run_of visit plan capture options) (account_with number mark (by_worker number [] (map (λ (q : Queue). q.taken) queues)) (by_worker number [] accepted) work filled)
@@ -321,14 +328,14 @@ pub record IsRound (visit : Visit) (lossless : Bool) (told : List Settled → Ty
   pub may : AllByRecursion (AllByRecursion (MayTake g generation)) took
   pub one : AllByRecursion (λ (frames : List HandoffFrame). length frames ≤ 1) took
   pub count_is : length (taken_arrivals number took) ≡ came_count
-  pub bytes_is : arrival_bytes (taken_arrivals number took) ≡ came_bytes
+  pub bytes_is : arrivals_extent (taken_arrivals number took) ≡ came_bytes
   pub within : taken + came_count ≤ 3 * length capture.packets
   pub fates : length work.fates.items + came_count + own ≤ length capture.packets
-  pub bytes_most : vec_len work.bytes + came_bytes + left ≤ captured_bytes capture.packets
+  pub bytes_most : vec_len work.bytes + came_bytes + left ≤ captured_extent capture.packets
   pub most_burst : most ≤ options.burst
   pub many_most : many ≤ most
   pub below : AreBelow options.workers mark limit many
-  pub drew : drew_bytes ≡ captured_bytes (take many (own_from options.workers mark capture.packets))
+  pub drew : drew_bytes ≡ captured_extent (take many (own_from options.workers mark capture.packets))
   pub own_after : own_from options.workers (mark_behind options.workers mark many) capture.packets ≡ drop many (own_from options.workers mark capture.packets)
   pub over : IsOver (stationed visit g generation (record { workers = options.workers; worker = number; slots = options.queue })) options.queue lossless told (taken_arrivals number took ++ next_draws options.workers mark many (frames_of capture.packets))
       work filled (by_worker number [] accepted) new after (by_worker number [] new_accepted)
@@ -340,47 +347,55 @@ pub drawn_most : (workers mark limit many : ℕ) (packets : List Captured) → 0
 drawn_most workers mark limit many packets some within below = (draws_weight workers mark limit many packets some within below).1
 
 pub arrivals_many : (worker workers mark many : ℕ) (took : List (List HandoffFrame)) (packets : List (List ℕ)) → (length (taken_arrivals worker took ++ next_draws workers mark many packets) ≡ length (taken_arrivals worker took) + many)
-    × (sum_by is_drawn (taken_arrivals worker took ++ next_draws workers mark many packets) ≡ many)
+    × (sum_by drawn_pieces (taken_arrivals worker took ++ next_draws workers mark many packets) ≡ sum_by drawn_pieces (next_draws workers mark many packets))
 arrivals_many worker workers mark many took packets =
     let draws = draws_length workers mark many packets in
-    let d0 = draws.0 in let d1 = draws.1 in
+    let d0 = draws.0 in
     let n = length-append (taken_arrivals worker took) (next_draws workers mark many packets) in
-    let d = sum_by-append is_drawn (taken_arrivals worker took) (next_draws workers mark many packets) in
+    let d = sum_by-append drawn_pieces (taken_arrivals worker took) (next_draws workers mark many packets) in
     let none = none_drawn worker took in
-    (omega (arith, n, d0), omega (arith, d, d1, none))
+    (omega (arith, n, d0), omega (arith, d, none))
 
 pub keeping_after : {told : List Settled → Type 0} (visit : Visit) (lossless : Bool) (plan : Planned) (capture : Capture) (options : Options) (g : Graph)
     (generation limit number mark own left taken many most came_count came_bytes drew_bytes : ℕ) (took : List (List HandoffFrame)) (queues new_queues : List Queue)
     (accepted new_accepted : List (List HandoffFrame)) (old_slots slots : List ℕ) (work new : Work) (cache filled after last : CacheBook) (sorted new_sorted : Sorted) (groups new_groups : List (List ℕ))
     → IsRound visit lossless told plan capture options g generation limit number mark own left taken many most came_count came_bytes drew_bytes took queues new_queues accepted new_accepted slots work new filled after → IsPlan plan
-    → own ≡ length (own_from options.workers mark capture.packets) → left ≡ captured_bytes (own_from options.workers mark capture.packets) → filled.allocated ≡ cache.allocated → filled.freed ≡ cache.freed → last.allocated ≡ after.allocated → last.freed ≡ after.freed
+    → own ≡ length (own_from options.workers mark capture.packets) → left ≡ captured_extent (own_from options.workers mark capture.packets) → filled.allocated ≡ cache.allocated → filled.freed ≡ cache.freed → last.allocated ≡ after.allocated → last.freed ≡ after.freed
     → new_sorted ≡ nothing_sorted → new_groups ≡ replicate options.workers []
-    → IsKeeping number options (length capture.packets) (captured_bytes capture.packets) mark own left taken work sorted groups queues accepted old_slots cache
-    → IsKeeping number options (length capture.packets) (captured_bytes capture.packets) (mark_behind options.workers mark many) (own - many) (left - drew_bytes) (taken + came_count) new new_sorted new_groups new_queues new_accepted slots last
+    → IsKeeping number options (length capture.packets) (captured_extent capture.packets) mark own left taken work sorted groups queues accepted old_slots cache
+    → IsKeeping number options (length capture.packets) (captured_extent capture.packets) (mark_behind options.workers mark many) (own - many) (left - drew_bytes) (taken + came_count) new new_sorted new_groups new_queues new_accepted slots last
 keeping_after visit lossless plan capture options g generation limit number mark own left taken many most came_count came_bytes drew_bytes took queues new_queues accepted new_accepted old_slots slots work new cache filled after last sorted new_sorted groups new_groups
     r is own_is left_is filled_allocated filled_freed last_allocated last_freed no_sorted no_groups k =
     let some : 0 < options.workers = (let h = r.size in omega (arith, h)) in
     let s : Setting = stationed visit g generation (record { workers = options.workers; worker = number; slots = options.queue }) in
     let arrivals : List Arrival = taken_arrivals number took ++ next_draws options.workers mark many (frames_of capture.packets) in
     let sizes = arrivals_many number options.workers mark many took (frames_of capture.packets) in
-    let n0 = sizes.0 in let n1 = sizes.1 in
+    let n0 = sizes.0 in
+    let draws : List Arrival = next_draws options.workers mark many (frames_of capture.packets) in
+    let drawn = drawn_pieces_most arrivals in
+    let chains = chains_taken s took r.may in
+    let own_chains = draws_length options.workers mark many (frames_of capture.packets) in
+    let c3 = own_chains.0 in let c4 = own_chains.1 in
+    let own_most = drawn_pieces_most draws in
+    let split = sum_by-append pieces_before (taken_arrivals number took) draws in
     let weights = draws_weight options.workers mark limit many capture.packets some r.limited.1 r.below in
     let w0 = weights.0 in let fewer = weights.1 in
-    let both = sum_by-append arrival_len (taken_arrivals number took) (next_draws options.workers mark many (frames_of capture.packets)) in
-    let part = sum_by-take-drop (λ (c : Captured). length c.bytes) (own_from options.workers mark capture.packets) many in
+    let both = sum_by-append arrival_extent (taken_arrivals number took) (next_draws options.workers mark many (frames_of capture.packets)) in
+    let part = sum_by-take-drop received_extent (own_from options.workers mark capture.packets) many in
     let count = r.count_is in let bytes = r.bytes_is in let drew = r.drew in
     let within = r.within in let fates = r.fates in let most_bytes = r.bytes_most in
     let came_most = k.came_most in let taken_most = k.taken_most in
     let a = r.over.advances in
     let live = a.live in let empty = k.rest.no_buffer in
     let gone = no_buffer_left s new r.over.held r.over.none in
-    let e1 = r.over.exchanges.allocated in let e2 = r.over.exchanges.freed in let logged = logged_most r.over.settled in
+    let e1 = r.over.exchanges.allocated in let e2 = r.over.exchanges.freed in
+    let back = held_most s arrivals arrivals r.over.settled work new filled r.over.ready r.over.advances in
     let c1 = k.counted.0 in let c2 = k.counted.1 in
     record {
       range = k.range;
       number_within = k.number_within;
       came = k.came + (came_count + many);
-      rest = rest_after s options.queue lossless (length capture.packets) (captured_bytes capture.packets) k.came own left (came_count + many) many (came_bytes + drew_bytes) (left - drew_bytes) arrivals work new filled after (by_worker number [] accepted) (by_worker number [] new_accepted)
+      rest = rest_after s options.queue lossless (length capture.packets) (captured_extent capture.packets) k.came own left (came_count + many) many (came_bytes + drew_bytes) (left - drew_bytes) arrivals work new filled after (by_worker number [] accepted) (by_worker number [] new_accepted)
           (setting_of visit plan g generation (record { workers = options.workers; worker = number; slots = options.queue }) r.kinds is r.there) k.rest (omega (arith, n0, count)) (omega (arith, both, bytes, w0, drew)) (omega (arith, fewer, own_is))
           (omega (arith, came_most, within, fewer, own_is)) (omega (arith, fates, fewer, own_is)) (omega (arith, most_bytes, part, left_is, drew)) r.over;
       came_most = omega (arith, came_most, fewer, own_is);
@@ -399,7 +414,7 @@ keeping_after visit lossless plan capture options g generation limit number mark
           let before = peers_each (λ (frames : List HandoffFrame). length frames ≤ k.came) number to accepted (omega arith) k.puts_few in
           omega (arith, longer, before, live, empty, gone, n0, count))
           (let h = r.accepted_each in let w = k.number_within in omega (arith, h, w));
-      counted = (omega (arith, e1, c1, n1, filled_allocated, last_allocated), omega (arith, e2, c2, logged, live, empty, gone, n0, count, filled_freed, last_freed));
+      counted = (omega (arith, e1, c1, drawn, n0, count, filled_allocated, last_allocated), omega (arith, e2, c2, back, chains, c3, c4, own_most, split, count, filled_freed, last_freed));
     }
 
 -- what the worker stands for after the round
@@ -410,7 +425,8 @@ pub work_after : {told : List Settled → Type 0} (visit : Visit) (lossless : Bo
     → IsAtWork visit lossless plan capture options old_book → old_book.number ≡ number → old_book.mark ≡ mark → old_book.own ≡ own → old_book.left ≡ left → old_book.put ≡ by_worker number [] accepted → old_book.log ≡ work.fates.items
     → account_of old_book ≡ account_with number mark (by_worker number [] (map (λ (q : Queue). q.taken) queues)) (by_worker number [] accepted) work filled
     → account_of new_book ≡ account_with number (mark_behind options.workers mark many) (by_worker number [] (map (λ (q : Queue). q.taken) new_queues)) (by_worker number [] new_accepted) new after
-    → new_book.options ≡ old_book.options → new_book.packets ≡ old_book.packets → new_book.bytes ≡ old_book.bytes → new_book.own ≡ own - many → new_book.left ≡ left - drew_bytes → length new_book.inputs ≡ length old_book.inputs → length new_book.outputs ≡ length old_book.outputs
+    → new_book.options ≡ old_book.options → new_book.packets ≡ old_book.packets → new_book.bytes ≡ old_book.bytes → new_book.own ≡ own - many
+    → new_book.left ≡ left - drew_bytes → length new_book.inputs ≡ length old_book.inputs → length new_book.outputs ≡ length old_book.outputs
     → IsAtWork visit lossless plan capture options new_book
 work_after visit lossless plan capture options g generation limit number mark own left taken many most came_count came_bytes drew_bytes took queues new_queues accepted new_accepted slots work new filled after old_book new_book r w number_is mark_is own_is left_is put_is log_is
     was becomes options_same packets_same bytes_same own_new left_new inputs_same outputs_same =
@@ -423,7 +439,7 @@ work_after visit lossless plan capture options g generation limit number mark ow
     subst (λ n. StandsFor run (traced_of capture options) n (account_with number mark (by_worker number [] (map (λ (q : Queue). q.taken) queues)) (by_worker number [] accepted) work filled)) number_is (subst (StandsFor run (traced_of capture options) old_book.number) was w.stands) in
     let own_mark : mark % options.workers ≡ number = ap (λ m. m % options.workers) (sym mark_is) ∙ w.own_mark ∙ number_is in
     let own_list = r.own_after in
-    let part = sum_by-take-drop (λ (c : Captured). length c.bytes) (own_from options.workers mark capture.packets) many in
+    let part = sum_by-take-drop received_extent (own_from options.workers mark capture.packets) many in
     let drew = r.drew in
     let added =
     round_adds visit lossless plan capture options g generation number mark many limit queues new_queues took accepted new_accepted work new filled after r.kinds w.planned r.there own_mark r.taken_is r.size r.may r.limited.0 r.limited.1 r.now r.below r.over in
@@ -436,8 +452,8 @@ work_after visit lossless plan capture options g generation limit number mark ow
         bytes = bytes_same ∙ w.made.bytes;
         own = own_new ∙ (let e = length-drop many (own_from options.workers mark capture.packets) in let h = w.made.own in let m = ap (λ m. length (own_from options.workers m capture.packets)) mark_is in let l = ap length own_list in
             let v = ap (λ m. length (own_from options.workers m capture.packets)) mark_new in omega (arith, e, h, m, l, v, own_is));
-        left = left_new ∙ (let h = w.made.left in let m = ap (λ m. captured_bytes (own_from options.workers m capture.packets)) mark_is in let l = ap captured_bytes own_list in
-            let v = ap (λ m. captured_bytes (own_from options.workers m capture.packets)) mark_new in omega (arith, part, h, m, l, v, left_is, drew));
+        left = left_new ∙ (let h = w.made.left in let m = ap (λ m. captured_extent (own_from options.workers m capture.packets)) mark_is in let l = ap captured_extent own_list in
+            let v = ap (λ m. captured_extent (own_from options.workers m capture.packets)) mark_new in omega (arith, part, h, m, l, v, left_is, drew));
       };
       stands = subst (λ n. StandsFor run (traced_of capture options) n (account_of new_book)) (sym number_new) (subst (StandsFor run (traced_of capture options) number) (sym becomes)
           (round_stands run (traced_of capture options) number (account_with number mark (by_worker number [] (map (λ (q : Queue). q.taken) queues)) (by_worker number [] accepted) work filled)

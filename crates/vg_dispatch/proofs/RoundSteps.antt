@@ -1,5 +1,6 @@
 -- The steps of a round of a worker, one after the other.
-use Rattle.std.proofs.Common.{◌≡◌, ℕ, zero, suc, ◌+◌, ◌-◌, ◌*◌, ◌<◌, ◌≤◌, ◌^◌, List, [], ◌∷◌, ◌++◌, length, map, take, drop, refl, sym, ap, subst, ◌∙◌, arith}
+use Rattle.std.proofs.lemmas.Bool.{cases_lt, le-ltb, lt-ltb}
+use Rattle.std.proofs.Common.{◌≡◌, ℕ, zero, suc, inl, inr, ◌+◌, ◌-◌, ◌*◌, ◌<◌, ◌≤◌, ◌^◌, List, [], ◌∷◌, ◌++◌, length, map, take, drop, refl, sym, ap, subst, ◌∙◌, arith}
 use Rattle.std.specs.Prelude.{Bool, true, false, Some, slice_get, replicate, min, ◌==◌, if◌then◌else◌}
 use Rattle.std.specs.Bool.{MatchBool, IsTrue}
 use Rattle.std.specs.List.{AllByRecursion}
@@ -17,7 +18,7 @@ use Rattle.vg_dispatch.specs.declared.options.Options.{Options}
 use Rattle.vg_underway.specs.declared.taking.Came.{Came}
 use Rattle.vg_underway.specs.declared.underway.Work.{Work}
 use Rattle.vg_underway.specs.Queues.{Queue}
-use Rattle.vg_underway.specs.OwnPackets.{own_from, captured_bytes, frames_of}
+use Rattle.vg_underway.specs.OwnPackets.{own_from, captured_extent, frames_of}
 use Rattle.vg_dispatch.specs.Progress.{AreInRange}
 use Rattle.vg_underway.specs.Underway.{Setting, stationed}
 use Rattle.vg_underway.specs.Draws.{AreBelow, IsReady, IsEntered, CanDrawOwn}
@@ -27,7 +28,7 @@ use Rattle.vg_dispatch.specs.Keeping.{IsKeeping}
 use Rattle.vg_dispatch.specs.Workers.{WorkerBook, account_of}
 use Rattle.vg_dispatch.specs.Standing.{IsMadeFor, IsAtWork, IsSameWorker}
 use Rattle.vg_underway.proofs.HandGroupLemmas.{all_mono}
-use Rattle.vg_underway.proofs.TakingLemmas.{none_drawn}
+use Rattle.vg_underway.proofs.TakingLemmas.{chains_taken}
 use Rattle.std.proofs.lemmas.List.{append-nil, length-map}
 use Rattle.std.proofs.lemmas.Bool.Decides.{nat_tests}
 use Rattle.vg_model.specs.Valid.{IsKindSet}
@@ -40,17 +41,19 @@ use Rattle.vg_underway.specs.Underway.{IsSetting}
 use Rattle.vg_underway.specs.Works.{IsSteady, TakesAll}
 use Rattle.vg_journeys.specs.Turns.{Settled}
 use Rattle.vg_underway.specs.Hands.{IsDispatched}
-use Rattle.vg_underway.specs.Taking.{AreTaken}
+use Rattle.vg_underway.specs.Taking.{AreTaken, most_in_frame}
 use Rattle.vg_underway.proofs.DrawLemmas.{room_entered, takes_entered}
 use Rattle.vg_underway.proofs.RestLemmas.{IsOver, account_with, round_over}
 use Rattle.vg_dispatch.proofs.RoundLemmas.{ready_in_round, arrivals_many, IsRound, keeping_after, work_after}
 
 -- a round takes frames only where the cache has few buffers
-pub small_tried : (goes : Bool) (tried inputs cached more filled : ℕ) → MatchBool goes (tried ≡ inputs) (tried ≡ 0) → (IsTrue goes → cached ≤ 256) → (0 < cached → more ≡ 0) → more ≤ 128 → filled ≡ cached + more → filled ≤ most_cached → inputs ≤ 7
-    → (tried ≤ 7) × (filled + 256 * tried ≤ most_cached)
-small_tried true tried inputs cached zero filled is small none few sum fits short = (omega (arith, is, short), (let h = small refl in omega (arith, is, h, few, sum, short)))
-small_tried true tried inputs zero (suc more) filled is small none few sum fits short = (omega (arith, is, short), omega (arith, is, few, sum, short))
-small_tried true tried inputs (suc cached) (suc more) filled is small none few sum fits short = absurd (let e = none (omega arith) in omega (arith, e))
+pub small_tried : (goes : Bool) (tried inputs cached more filled : ℕ) → MatchBool goes (tried ≡ inputs) (tried ≡ 0) → (IsTrue goes → cached ≤ 256) → (5 ≤ cached → more ≡ 0) → more ≤ 128 → filled ≡ cached + more → filled ≤ most_cached → inputs ≤ 7
+    → (tried ≤ 7) × (filled + most_in_frame * tried ≤ most_cached)
+small_tried true tried inputs cached more filled is small none few sum fits short =
+    elim (cases_lt cached 5) [
+      | inl less ↦ (omega (arith, is, short), omega (arith, is, less, few, sum, short))
+      | inr enough ↦ (omega (arith, is, short), (let h = small refl in let e = none enough in omega (arith, is, h, e, sum, short)))
+    ]
 small_tried false tried inputs cached more filled is small none few sum fits short = (omega (arith, is), omega (arith, is, fits))
 
 -- and draws packets only then
@@ -63,7 +66,8 @@ most_small true many burst is = omega (arith, is)
 most_small false many burst is = omega (arith, is)
 
 -- the handoffs have room for all that came
-pub room_for : (goes draws : Bool) (tried inputs many burst workers packets : ℕ) (rooms : List ℕ) → MatchBool goes (tried ≡ inputs) (tried ≡ 0) → MatchBool draws (many ≡ burst) (many ≡ 0) → (IsTrue draws → IsTrue goes) → packets ≤ 256 * tried + many → burst ≤ 256 → inputs + 1 ≡ workers
+pub room_for : (goes draws : Bool) (tried inputs many burst workers packets : ℕ) (rooms : List ℕ) → MatchBool goes (tried ≡ inputs) (tried ≡ 0)
+    → MatchBool draws (many ≡ burst) (many ≡ 0) → (IsTrue draws → IsTrue goes) → packets ≤ 256 * tried + many → burst ≤ 256 → inputs + 1 ≡ workers
     → (IsTrue goes → AllByRecursion (λ room. 256 * workers ≤ room) rooms) → AllByRecursion (λ room. packets ≤ room) rooms
 room_for true draws tried inputs many burst workers packets rooms is so_many only most few each room =
     let fewer : many ≤ 256 = (let m = most_small draws many burst so_many in omega (arith, m, few)) in
@@ -80,15 +84,22 @@ pub same_limit : (a b most few : ℕ) → a ≡ b → (b ≤ most) × (b ≤ few
 same_limit a b most few same h = let x = h.0 in let y = h.1 in (omega (arith, same, x), omega (arith, same, y))
 
 -- what a refill takes
-pub refills : (cache : CacheBook) (more : ℕ) → more ≤ wanted cache → (0 < cache.len → more ≡ 0) × (more ≤ 128)
-refills cache more few = by cache.len few
-  where
-    by : (len : ℕ) → more ≤ (if len == 0 then lot else 0) → (0 < len → more ≡ 0) × (more ≤ 128)
-    by zero few = (λ h. absurd (omega (arith, h)), few)
-    by (suc n) few =
-        let some : (suc n == 0) ≡ false = grind (arith, nat_tests) in
-        let none : more ≤ 0 = subst (λ b. more ≤ (if b then lot else 0)) some few in
-        (λ h. omega (arith, none), omega (arith, none))
+pub refills : (cache : CacheBook) (more : ℕ) → more ≤ wanted cache → (5 ≤ cache.len → more ≡ 0) × (more ≤ 128)
+refills cache more few =
+    elim (cases_lt cache.len 5) [
+      | inl less ↦ (λ h. absurd (omega (arith, h, less)), subst (λ b. more ≤ (if b then lot else 0)) (lt-ltb cache.len 5 less) few)
+      | inr enough ↦
+          (let none : more ≤ 0 = subst (λ b. more ≤ (if b then lot else 0)) (le-ltb cache.len 5 enough) few in
+          (λ h. omega (arith, none), omega (arith, none)))
+    ]
+
+-- so it is never too full
+still_few : (len more filled : ℕ) → (5 ≤ len → more ≡ 0) → more ≤ 128 → filled ≡ len + more → len ≤ most_cached → filled ≤ most_cached
+still_few len more filled none few sum fits =
+    elim (cases_lt len 5) [
+      | inl less ↦ omega (arith, less, few, sum)
+      | inr enough ↦ (let e = none enough in omega (arith, e, sum, fits))
+    ]
 
 -- the worker was made for what it runs
 pub made_here : (capture : Capture) (options : Options) {v w : WorkerBook} → v ≡ w → IsMadeFor capture options w → IsMadeFor capture options v
@@ -97,8 +108,8 @@ made_here capture options is m = subst (IsMadeFor capture options) (sym is) m
 pub own_here : (capture : Capture) (options : Options) (v : WorkerBook) (items : List Captured) → IsMadeFor capture options v → items ≡ capture.packets → v.own ≡ length (own_from v.options.workers v.mark items)
 own_here capture options v items m is = m.own ∙ ap (λ (o : Options). length (own_from o.workers v.mark capture.packets)) (sym m.options_are) ∙ ap (λ xs. length (own_from v.options.workers v.mark xs)) (sym is)
 
-pub left_here : (capture : Capture) (options : Options) (v : WorkerBook) (items : List Captured) → IsMadeFor capture options v → items ≡ capture.packets → v.left ≡ captured_bytes (own_from v.options.workers v.mark items)
-left_here capture options v items m is = m.left ∙ ap (λ (o : Options). captured_bytes (own_from o.workers v.mark capture.packets)) (sym m.options_are) ∙ ap (λ xs. captured_bytes (own_from v.options.workers v.mark xs)) (sym is)
+pub left_here : (capture : Capture) (options : Options) (v : WorkerBook) (items : List Captured) → IsMadeFor capture options v → items ≡ capture.packets → v.left ≡ captured_extent (own_from v.options.workers v.mark items)
+left_here capture options v items m is = m.left ∙ ap (λ (o : Options). captured_extent (own_from o.workers v.mark capture.packets)) (sym m.options_are) ∙ ap (λ xs. captured_extent (own_from v.options.workers v.mark xs)) (sym is)
 
 -- what is known when packets are drawn
 pub record IsSetUp (options : Options) (mark own left limit most tried : ℕ) (cache filled : CacheBook) (items : List Captured) : Type 0 where
@@ -107,38 +118,31 @@ pub record IsSetUp (options : Options) (mark own left limit most tried : ℕ) (c
   pub few : most ≤ 256
   pub within : limit ≤ length items
   pub own_is : own ≡ length (own_from options.workers mark items)
-  pub left_is : left ≡ captured_bytes (own_from options.workers mark items)
-  pub so_many : most ≤ filled.len
-  pub fits : filled.len + 256 * tried ≤ most_cached
+  pub left_is : left ≡ captured_extent (own_from options.workers mark items)
+  pub fits : filled.len + most_in_frame * tried ≤ most_cached
   pub allocated : filled.allocated ≡ cache.allocated
   pub freed : filled.freed ≡ cache.freed
   pub tried_most : tried + 1 ≤ options.workers
 
-pub min_first : (a b : ℕ) → min a b ≤ a
-min_first a b = omega arith
-
-min_second : (a b : ℕ) → min a b ≤ b
-min_second a b = omega arith
-
-pub set_up : (capture : Capture) (run : Options) {v w : WorkerBook} → v ≡ w → IsMadeFor capture run w → (goes draws : Bool) (limit tried inputs cached more wanted room most : ℕ) (queues : List Queue) (cache filled : CacheBook) (items : List Captured)
+pub set_up : (capture : Capture) (run : Options) {v w : WorkerBook} → v ≡ w → IsMadeFor capture run w → (goes draws : Bool) (limit tried inputs cached more most : ℕ) (queues : List Queue) (cache filled : CacheBook) (items : List Captured)
     → AreInRange v.options → length queues + 1 ≡ v.options.workers → items ≡ capture.packets → limit ≤ length capture.packets → MatchBool goes (tried ≡ inputs) (tried ≡ 0) → (IsTrue goes → cached ≤ 256) → inputs ≡ length queues → cached ≡ cache.len
-    → (0 < cache.len → more ≡ 0) → more ≤ 128 → filled ≡ record cache { len = cache.len + more; taken = cache.taken + more } → room ≡ filled.len → filled.len ≤ most_cached → MatchBool draws (wanted ≡ v.options.burst) (wanted ≡ 0) → most ≡ min wanted room
+    → (5 ≤ cache.len → more ≡ 0) → more ≤ 128 → filled ≡ record cache { len = cache.len + more; taken = cache.taken + more } → cache.len ≤ most_cached → MatchBool draws (most ≡ v.options.burst) (most ≡ 0)
     → IsSetUp v.options v.mark v.own v.left limit most tried cache filled items
-set_up capture run {v} {w} is made goes draws limit tried inputs cached more wanted room most queues cache filled items range inputs_each items_is within tries small inputs_is cached_is none few filled_is room_is fits draw most_is =
+set_up capture run {v} {w} is made goes draws limit tried inputs cached more most queues cache filled items range inputs_each items_is within tries small inputs_is cached_is none few filled_is fits draw =
     let m = made_here capture run is made in
     let len = ap (λ (b : CacheBook). b.len) filled_is in
     let eight = range.workers.1 in
-    let here = small_tried goes tried inputs cached more filled.len tries small (λ h. none (omega (arith, h, cached_is))) few (omega (arith, len, cached_is)) fits (omega (arith, inputs_is, inputs_each, eight)) in
-    let fewer = most_small draws wanted v.options.burst draw in
-    let first = min_first wanted room in let second = min_second wanted room in let burst = range.burst.1 in let least = tried_none goes tried inputs tries in
+    let size = still_few cache.len more filled.len none few len fits in
+    let here = small_tried goes tried inputs cached more filled.len tries small (λ h. none (omega (arith, h, cached_is))) few (omega (arith, len, cached_is)) size (omega (arith, inputs_is, inputs_each, eight)) in
+    let fewer = most_small draws most v.options.burst draw in
+    let burst = range.burst.1 in let least = tried_none goes tried inputs tries in
     record {
       tries = here.0;
-      burst = omega (arith, fewer, first, most_is);
-      few = omega (arith, fewer, first, most_is, burst);
+      burst = omega (arith, fewer);
+      few = omega (arith, fewer, burst);
       within = (let e = ap length items_is in omega (arith, e, within));
       own_is = own_here capture run v items m items_is;
       left_is = left_here capture run v items m items_is;
-      so_many = omega (arith, second, most_is, room_is);
       fits = here.1;
       allocated = ap (λ (b : CacheBook). b.allocated) filled_is;
       freed = ap (λ (b : CacheBook). b.freed) filled_is;
@@ -156,7 +160,7 @@ module _ (visit : Visit) (g : Graph) (generation number packets bytes mark own l
       let few = t.few in let size = t.size in let a = u.allocated in let f = u.freed in
       let c1 = k.counted.0 in let c2 = k.counted.1 in let c3 = k.rest.came_few in let c4 = k.rest.few in
       ready_in_round packets bytes k.came own left options.workers mark limit tried many most got.count got.bytes (taken_arrivals number t.took) items work filled k.rest some u.tries u.few u.within fewer below u.own_is u.left_is t.count_is t.bytes_is
-      (none_drawn number t.took) (omega (arith, few, size)) t.fates t.bytes_most u.so_many u.fits (omega (arith, c1, c3, c4, a)) (omega (arith, c2, c3, c4, f))
+      (chains_taken (stationed visit g generation (record { workers = options.workers; worker = number; slots = options.queue })) t.took t.may) (omega (arith, few, size)) t.fates t.bytes_most u.fits (omega (arith, c1, c3, c4, a)) (omega (arith, c2, c3, c4, f))
 
   pub can_draw_here : IsKeeping number options packets bytes mark own left taken work sorted groups queues accepted slots cache
       → (t : TakesFrames (stationed visit g generation (record { workers = options.workers; worker = number; slots = options.queue })) (record { packets = packets; bytes = bytes; own = own; left = left; taken = taken }) tried work asked came new_queues got)
@@ -235,18 +239,18 @@ module _ (visit : Visit) (g : Graph) (generation number packets bytes mark own l
       → IsSetUp options mark own left limit most tried cache filled items → (many : ℕ) (mid : Work) (mid_cache : CacheBook)
       → many ≤ most → AreBelow options.workers mark limit many
       → IsEntered (stationed visit g generation (record { workers = options.workers; worker = number; slots = options.queue })) (taken_arrivals number t.took ++ next_draws options.workers mark many (frames_of items)) work filled mid mid_cache
-      → TakesAll mid mid_cache
+      → TakesAll (stationed visit g generation (record { workers = options.workers; worker = number; slots = options.queue })) 0 mid [] mid_cache
   takes_here k t u many mid mid_cache fewer below entered =
       takes_entered (stationed visit g generation (record { workers = options.workers; worker = number; slots = options.queue })) (taken_arrivals number t.took ++ next_draws options.workers mark many (frames_of items))
       (taken_arrivals number t.took ++ next_draws options.workers mark many (frames_of items)) [] work mid filled mid_cache (ready_here k t u many fewer below) entered (sym (append-nil (taken_arrivals number t.took ++ next_draws options.workers mark many (frames_of items))))
 
   -- all of the round
   pub round_here : {told : List Settled → Type 0} (all : List Settled → Type 0) (lossless : Bool) (plan : Planned) (capture : Capture) → IsKindSet visit → slice_get plan.graphs generation ≡ Some g → (limit ≤ limit_of plan.script capture generation) × (limit ≤ length capture.packets)
-      → ((earlier : ℕ) → suc earlier ≡ generation → limit_of plan.script capture earlier ≤ mark) → packets ≡ length capture.packets → bytes ≡ captured_bytes capture.packets → items ≡ capture.packets → asked ≡ queues
+      → ((earlier : ℕ) → suc earlier ≡ generation → limit_of plan.script capture earlier ≤ mark) → packets ≡ length capture.packets → bytes ≡ captured_extent capture.packets → items ≡ capture.packets → asked ≡ queues
       → IsKeeping number options packets bytes mark own left taken work sorted groups queues accepted slots cache
       → (t : TakesFrames (stationed visit g generation (record { workers = options.workers; worker = number; slots = options.queue })) (record { packets = packets; bytes = bytes; own = own; left = left; taken = taken }) tried work asked came new_queues got)
       → IsSetUp options mark own left limit most tried cache filled items → (many drew_bytes : ℕ) (mid new : Work) (mid_cache after : CacheBook) (new_accepted : List (List HandoffFrame)) (new_slots : List ℕ)
-      → many ≤ most → AreBelow options.workers mark limit many → drew_bytes ≡ captured_bytes (take many (own_from options.workers mark items)) → own_from options.workers (mark_behind options.workers mark many) items ≡ drop many (own_from options.workers mark items)
+      → many ≤ most → AreBelow options.workers mark limit many → drew_bytes ≡ captured_extent (take many (own_from options.workers mark items)) → own_from options.workers (mark_behind options.workers mark many) items ≡ drop many (own_from options.workers mark items)
       → (entered : IsEntered (stationed visit g generation (record { workers = options.workers; worker = number; slots = options.queue })) (taken_arrivals number t.took ++ next_draws options.workers mark many (frames_of items)) work filled mid mid_cache)
       → IsDispatched (stationed visit g generation (record { workers = options.workers; worker = number; slots = options.queue })) options.queue lossless told mid mid_cache (by_worker number [] accepted) new after (by_worker number [] new_accepted)
       → IsNothingPending new.pending → ((settled : List Settled) → told settled → all (entered.settled ++ settled)) → length new_accepted + 1 ≡ options.workers → AllByRecursion (λ n. n ≡ options.queue) new_slots
@@ -274,7 +278,7 @@ module _ (visit : Visit) (g : Graph) (generation number packets bytes mark own l
         most_burst = u.burst;
         many_most = fewer;
         below = below;
-        drew = drew ∙ ap (λ xs. captured_bytes (take many (own_from options.workers mark xs))) items_is;
+        drew = drew ∙ ap (λ xs. captured_extent (take many (own_from options.workers mark xs))) items_is;
         own_after = subst (λ xs. own_from options.workers (mark_behind options.workers mark many) xs ≡ drop many (own_from options.workers mark xs)) items_is own_after;
         over = subst (λ xs. IsOver s options.queue lossless all (taken_arrivals number t.took ++ next_draws options.workers mark many (frames_of xs)) work filled (by_worker number [] accepted) new after (by_worker number [] new_accepted)) items_is over;
         accepted_each = each;
@@ -282,20 +286,20 @@ module _ (visit : Visit) (g : Graph) (generation number packets bytes mark own l
       }
 
   -- what is kept after it
-  pub keeping_here : {told : List Settled → Type 0} (lossless : Bool) (plan : Planned) (capture : Capture) → IsPlan plan → packets ≡ length capture.packets → bytes ≡ captured_bytes capture.packets → items ≡ capture.packets
+  pub keeping_here : {told : List Settled → Type 0} (lossless : Bool) (plan : Planned) (capture : Capture) → IsPlan plan → packets ≡ length capture.packets → bytes ≡ captured_extent capture.packets → items ≡ capture.packets
       → IsKeeping number options packets bytes mark own left taken work sorted groups queues accepted slots cache → IsSetUp options mark own left limit most tried cache filled items
       → (took : List (List HandoffFrame)) (many drew_bytes : ℕ) (new : Work) (after last : CacheBook) (new_accepted : List (List HandoffFrame)) (new_slots : List ℕ) (new_sorted : Sorted) (new_groups : List (List ℕ))
       → IsRound visit lossless told plan capture options g generation limit number mark own left taken many most got.count got.bytes drew_bytes took queues new_queues accepted new_accepted new_slots work new filled after
       → last.allocated ≡ after.allocated → last.freed ≡ after.freed → new_sorted ≡ nothing_sorted → new_groups ≡ replicate options.workers []
       → IsKeeping number options packets bytes (mark_behind options.workers mark many) (own - many) (left - drew_bytes) (taken + got.count) new new_sorted new_groups new_queues new_accepted new_slots last
   keeping_here lossless plan capture planned packets_is bytes_is items_is k u took many drew_bytes new after last new_accepted new_slots new_sorted new_groups r allocated freed no_sorted no_groups =
-      let before : IsKeeping number options (length capture.packets) (captured_bytes capture.packets) mark own left taken work sorted groups queues accepted slots cache =
-      subst (λ n. IsKeeping number options n (captured_bytes capture.packets) mark own left taken work sorted groups queues accepted slots cache) packets_is
+      let before : IsKeeping number options (length capture.packets) (captured_extent capture.packets) mark own left taken work sorted groups queues accepted slots cache =
+      subst (λ n. IsKeeping number options n (captured_extent capture.packets) mark own left taken work sorted groups queues accepted slots cache) packets_is
       (subst (λ n. IsKeeping number options packets n mark own left taken work sorted groups queues accepted slots cache) bytes_is k) in
       subst (λ n. IsKeeping number options n bytes (mark_behind options.workers mark many) (own - many) (left - drew_bytes) (taken + got.count) new new_sorted new_groups new_queues new_accepted new_slots last) (sym packets_is)
       (subst (λ n. IsKeeping number options (length capture.packets) n (mark_behind options.workers mark many) (own - many) (left - drew_bytes) (taken + got.count) new new_sorted new_groups new_queues new_accepted new_slots last) (sym bytes_is)
       (keeping_after visit lossless plan capture options g generation limit number mark own left taken many most got.count got.bytes drew_bytes took queues new_queues accepted new_accepted slots new_slots work new cache filled after last sorted new_sorted groups
-      new_groups r planned (u.own_is ∙ ap (λ xs. length (own_from options.workers mark xs)) items_is) (u.left_is ∙ ap (λ xs. captured_bytes (own_from options.workers mark xs)) items_is) u.allocated u.freed allocated freed no_sorted no_groups before))
+      new_groups r planned (u.own_is ∙ ap (λ xs. length (own_from options.workers mark xs)) items_is) (u.left_is ∙ ap (λ xs. captured_extent (own_from options.workers mark xs)) items_is) u.allocated u.freed allocated freed no_sorted no_groups before))
 
 -- of a map
 pub all_mapped : {X Y : Type 0} (f : X → Y) (P : Y → Type 0) (xs : List X) → AllByRecursion (λ x. P (f x)) xs → AllByRecursion P (map f xs)

@@ -195,6 +195,7 @@ round_same run lossless g generation limit o n s t i j a b r =
       cached = r.cached;
       draws = r.draws;
       burst = r.burst;
+      left = r.left;
       buffers = r.buffers;
       mark = r.mark;
       below = r.below;
@@ -288,5 +289,6 @@ finished_here visit lossless plan capture options {v} {w} {x} {y} is h before sa
       drawn = λ e. let d = h.drawn (sym stop ∙ e) in omega (arith, d, mark);
     }
 
-pub rounds_at : (run : Run) (lossless : Bool) (limit : ℕ) (w n : WorkerBook) (before : WorkerSeat) (parcel : WorkerParcel) → w.seat ≡ Some before → before.parcel ≡ Some parcel → IsRoundOf run lossless parcel.fork.graph parcel.fork.generation limit w n → RoundsAt run lossless w.seat limit w n
+pub rounds_at : (run : Run) (lossless : Bool) (limit : ℕ) (w n : WorkerBook) (before : WorkerSeat) (parcel : WorkerParcel) → w.seat ≡ Some before → before.parcel ≡ Some parcel
+    → IsRoundOf run lossless parcel.fork.graph parcel.fork.generation limit w n → RoundsAt run lossless w.seat limit w n
 rounds_at run lossless limit w n before parcel sat has r = subst (λ s. RoundsAt run lossless s limit w n) (sym sat) (subst (λ p. RoundsWith run lossless p limit w n) (sym has) r)

@@ -1,5 +1,5 @@
 -- What a round of a worker does.
-use Rattle.std.specs.Prelude.{Bool, false, ◌≡◌, ℕ, ◌+◌, ◌*◌, ◌≤◌, ◌<◌, List, [], ◌++◌, length, Option, None, Some}
+use Rattle.std.specs.Prelude.{Bool, false, ◌≡◌, ◌⊎◌, ℕ, ◌+◌, ◌*◌, ◌≤◌, ◌<◌, List, [], ◌++◌, length, Option, None, Some}
 use Rattle.std.specs.List.{sum_by, AllByRecursion}
 use Rattle.vg_model.specs.declared.fates.Fate.{Fate}
 use Rattle.vg_model.specs.Graph.{Graph}
@@ -9,9 +9,10 @@ use Rattle.vg_journeys.specs.Accounts.{HandoffFrame, Adds, frames_with, below as
 use Rattle.vg_journeys.specs.Counts.{IsCountIn}
 use Rattle.vg_journeys.specs.Windows.{mark_behind}
 use Rattle.vg_dispatch.specs.declared.parcels.WorkerParcel.{WorkerParcel}
+use Rattle.vg_underway.specs.Draws.{AreChained, LacksBuffers}
 use Rattle.vg_underway.specs.SentEntries.{sent_size}
 use Rattle.vg_underway.specs.Taking.{MayTake}
-use Rattle.vg_underway.specs.Queues.{Tries, frame_bytes, packets_in, bytes_in}
+use Rattle.vg_underway.specs.Queues.{Tries, frame_extent, packets_in, extents_in}
 use Rattle.vg_underway.specs.Outlets.{Outlet, outlet_with, most_in_round, IsTicked, Push, ArePushes, if_congested, refused_at, dropped_in, dropped_in_all}
 use Rattle.vg_dispatch.specs.Workers.{WorkerSeat, WorkerBook, IsOther, intake_from, account_of}
 
@@ -21,15 +22,16 @@ before of took from = sum_by (λ worker. of (frames_with worker took)) (workers_
 
 -- A frame is within the log of a worker, where so many packets with so many bytes came in this round before it. N being the number of
 -- packets of the capture: the packets that the worker has ever taken are at most 3 N; the fates that it has logged, the packets of this
--- round and its own packets that aren't drawn yet are at most N; and their bytes are at most those of the capture.
+-- round and its own packets that aren't drawn yet are at most N; and the bytes that it has sent, and those of these packets with their
+-- rooms, are at most those of all packets of the capture with the rooms that they are received with.
 pub record IsWithin (w : WorkerBook) (packets bytes : ℕ) (frame : HandoffFrame) : Type 0 where
   pub taken : sum_by packets_in w.taken + packets + length frame.packets ≤ 3 * w.packets
   pub fates : length w.log + packets + length frame.packets + w.own ≤ w.packets
-  pub bytes_most : sum_by sent_size w.sent + bytes + frame_bytes frame + w.left ≤ w.bytes
+  pub bytes_most : sum_by sent_size w.sent + bytes + frame_extent frame + w.left ≤ w.bytes
 
 -- a round may take this frame of a worker, where it took these of the workers below
 abbrev pub MayTakeFrom : Graph → (generation : ℕ) → WorkerBook → (took : List (List HandoffFrame)) → (from : ℕ) → HandoffFrame → Type 0
-MayTakeFrom g generation w took from frame = MayTake g generation frame × IsWithin w (before packets_in took from) (before bytes_in took from) frame
+MayTakeFrom g generation w took from frame = MayTake g generation frame × IsWithin w (before packets_in took from) (before extents_in took from) frame
 
 -- the cache has no more buffers than it may keep, and each handoff has room for all that a round may bring
 abbrev pub IsOpen : WorkerBook → (handoffs : ℕ → Outlet) → Type 0
@@ -56,17 +58,19 @@ pub record IsRoundOf (run : Run) (lossless : Bool) (g : Graph) (generation limit
   pub may : (from : ℕ) → AllByRecursion (MayTake g generation) (frames_with from took)
   pub tries : IsOpen old ticked → (from : ℕ) → IsOther old from → Tries (MayTakeFrom g generation old took from) (intake_from old from) (frames_with from took) (intake_from new from)
   pub passes : (IsOpen old ticked → ⊥) → (from : ℕ) → IsOther old from → (frames_with from took ≡ []) × (intake_from new from ≡ intake_from old from)
-  -- its cache takes so many buffers of the pool, where it is empty
+  -- its cache takes so many buffers of the pool, where it may lack some for the longest packet
   pub filled : ℕ
   pub refill : filled ≤ wanted old.cache
   pub cached : new.cache.taken ≡ old.cache.taken + filled
-  -- where it may draw, it draws its next packets below the limit, as many as the burst and the cache's buffers allow; or else none
+  -- where it may draw, it draws its next packets below the limit, as many as the burst allows, up to one that takes more buffers than the
+  -- cache then has; or else none
   pub draws : ℕ
   pub burst : draws ≤ old.options.burst
-  pub buffers : draws ≤ old.cache.len + filled
+  pub left : ℕ
+  pub buffers : AreChained old.options.workers old.mark draws run.packets (old.cache.len + filled) left
   pub mark : new.mark ≡ mark_behind old.options.workers old.mark draws
   pub below : (k : ℕ) → k < draws → mark_behind old.options.workers old.mark k < limit
-  pub all : MayDraw old ticked → draws < old.options.burst → draws < old.cache.len + filled → limit ≤ new.mark
+  pub all : MayDraw old ticked → draws < old.options.burst → (limit ≤ new.mark) ⊎ LacksBuffers run.packets new.mark left
   pub none : (MayDraw old ticked → ⊥) → draws ≡ 0
   -- each packet that came goes through one leg, under this generation; it is logged, or stands in a frame that was accepted; nothing else
   -- is logged, put, counted or noted

@@ -16,7 +16,7 @@ use Rattle.vg_dispatch.specs.declared.parcels.WorkerParcel.{WorkerParcel}
 use Rattle.vg_dispatch.specs.declared.parcels.Stop.{Stop}
 use Rattle.vg_dispatch.specs.declared.parcels.Stop.TheVariants as stops
 use Rattle.vg_dispatch.specs.Parcels.{Fits}
-use Rattle.vg_underway.specs.OwnPackets.{captured_bytes, own_from, frames_of}
+use Rattle.vg_underway.specs.OwnPackets.{captured_extent, own_from, frames_of}
 use Rattle.vg_dispatch.specs.Progress.{AreInRange}
 use Rattle.vg_dispatch.specs.Workers.{Windows, WorkerSeat, WorkerBook, account_of}
 
@@ -39,9 +39,9 @@ traced_of capture options = min options.trace (length capture.packets)
 pub record IsMadeFor (capture : Capture) (options : Options) (w : WorkerBook) : Type 0 where
   pub options_are : w.options ≡ options
   pub packets : w.packets ≡ length capture.packets
-  pub bytes : w.bytes ≡ captured_bytes capture.packets
+  pub bytes : w.bytes ≡ captured_extent capture.packets
   pub own : w.own ≡ length (own_from options.workers w.mark capture.packets)
-  pub left : w.left ≡ captured_bytes (own_from options.workers w.mark capture.packets)
+  pub left : w.left ≡ captured_extent (own_from options.workers w.mark capture.packets)
 
 -- a parcel that a worker has: a generation of the book, the one with which it came, with the worker's mark
 pub record HasParcel (book : Windows) (mark : ℕ) (seat : WorkerSeat) (parcel : WorkerParcel) : Type 0 where

@@ -54,10 +54,11 @@ pub record WorkerBook : Type 0 where
   -- its number, and the options of the run
   pub number : ℕ
   pub options : Options
-  -- how many packets the capture has, and how many captured bytes
+  -- how many packets the capture has, and how many bytes they and the rooms that they are received with have together
   pub packets : ℕ
   pub bytes : ℕ
-  -- the number of the next packet that it draws; how many of its own packets there are from there on, and their captured bytes
+  -- the number of the next packet that it draws; how many of its own packets there are from there on, and how many bytes they and their
+  -- rooms have together
   pub mark : ℕ
   pub own : ℕ
   pub left : ℕ

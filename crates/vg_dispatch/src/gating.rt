@@ -60,7 +60,7 @@ pub(crate) fn where_goes(goes: bool, count: u32) -> u32
     if goes { count } else { 0 }
 }
 
-// Refills the cache where it is empty, for a round that may draw packets; answers with how many buffers.
+// Refills the cache where it may lack buffers for the longest packet, for a round that may draw packets; answers with how many buffers.
 pub(crate) fn refill_for<R: Wait, T: PoolLedger, L: Ledger>(
     rt: &R,
     pool: &LockedPool<T, L>,

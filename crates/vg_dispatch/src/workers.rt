@@ -55,10 +55,11 @@ pub struct Worker<K: KindSet, H: Handoff<HandFrame>, T: PoolLedger, L: Ledger> {
     number: u8,
     options: Options,
     kinds: K,
-    // How many packets the capture has, and how many captured bytes.
+    // How many packets the capture has, and how many bytes they and the rooms that they are received with have together.
     packets: u32,
     bytes: usize,
-    // The next packet that it draws; how many of its own packets there are from there on, and their captured bytes.
+    // The next packet that it draws; how many of its own packets there are from there on, and how many bytes they and their rooms
+    // have together.
     mark: u64,
     own: u32,
     left: usize,
@@ -143,7 +144,7 @@ impl<K: KindSet, H: Handoff<HandFrame>, T: PoolLedger, L: Ledger> Model for Work
 impl<K: KindSet, H: Handoff<HandFrame>, T: PoolLedger, L: Ledger> Worker<K, H, T, L> {
     /// A worker with this number, which has drawn nothing yet, at this seat, with these links and this cache.
     ///
-    /// It has room for the fates of all the packets of the capture and for their bytes, and for the packets that may be on their
+    /// It has room for the fates of all the packets of the capture and for their bytes and rooms, and for the packets that may be on their
     /// way in a round.
     ///
     /// # Errors
@@ -340,7 +341,7 @@ impl<K: KindSet, H: Handoff<HandFrame>, T: PoolLedger, L: Ledger> Worker<K, H, T
         );
         refill_for(rt, pool, &mut self.cache, limit.is_some());
         let draws = may_draw(goes, self.outputs.as_slice(), room);
-        let most = where_goes(draws, self.options.burst).min(self.cache.len());
+        let most = where_goes(draws, self.options.burst);
         let drew = self.work.draw_own::<K, T, L>(
             fork,
             station,

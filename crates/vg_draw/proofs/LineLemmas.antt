@@ -1,11 +1,14 @@
 -- Lines in a row, and what stands at a place of a graph.
-use Rattle.std.proofs.Common.{◌≡◌, ℕ, ◌+◌, ◌<◌, List, [], ◌∷◌, ◌++◌, length, take, get_or, refl, sym, ap, subst, ◌∙◌, append-nil, append_assoc, add-zero, zero-add, suc, map, length-take-le, arith, flat_map}
+use Rattle.std.proofs.Common.{◌≡◌, ℕ, ◌+◌, ◌<◌, List, [], ◌∷◌, ◌++◌, length, take, refl, sym, ap, ◌∙◌, append-nil, append_assoc, add-zero, zero-add, suc, map, length-take-le, arith, flat_map}
 use Rattle.std.proofs.lemmas.List.{take_more}
 use Rattle.std.proofs.lemmas.Option.{get_or_from_slice_get, slice_get_within}
 use Rattle.std.specs.Prelude.{Option, Some, None, option_map, option_and_then, unwrap_or, slice_get}
-use Rattle.std.specs.List.{join_with_byte, AllByRecursion}
+use Rattle.std.specs.List.{join_with_byte}
 use Rattle.vg_model.specs.declared.kinds.Kind.{Kind}
 use Rattle.vg_model.specs.Graph.{Graph, Node, kind_at, slots, arc, next_nodes}
+use Rattle.vg_model.specs.Valid.{IsValid}
+use Rattle.vg_model.proofs.Journeys.{map_some}
+use Rattle.vg_model.proofs.LegEnds.{all_at}
 use Rattle.vg_draw.specs.Drawing.{pair_text, numbered, all_of}
 
 -- pieces joined by a byte are the first, and each other behind the byte
@@ -73,6 +76,14 @@ arc_among g n slot target = by_cases (slice_get g.nodes n)
         → slice_get (unwrap_or (option_map (λ (node : Node). node.arcs) o) []) slot ≡ Some target
     by_cases None e = absurd (cc e)
     by_cases (Some node) e = e
+
+-- a node of a valid graph has an arc for each slot of its kind
+pub length-next_nodes : (g : Graph) (n : ℕ) (kind : Kind) → IsValid g → kind_at g n ≡ Some kind → length (next_nodes g n) ≡ length (slots kind)
+length-next_nodes g n kind valid is_kind =
+    let found = map_some (λ (node : Node). node.kind) (slice_get g.nodes n) kind is_kind in
+    ap (λ (o : Option Node). length (unwrap_or (option_map (λ (node : Node). node.arcs) o) [])) found.1
+    ∙ all_at (λ (node : Node). length node.arcs ≡ length (slots node.kind)) g.nodes n found.0 found.1 valid.whole
+    ∙ ap (λ k. length (slots k)) found.2
 
 -- a text in three pieces
 pub three : (before a b c : List ℕ) → ((before ++ a) ++ b) ++ c ≡ before ++ (a ++ (b ++ c))

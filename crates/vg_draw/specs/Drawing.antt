@@ -20,15 +20,9 @@ pair_text byte = digit_char (byte / 16) ∷ digit_char (byte % 16) ∷ []
 abbrev pub mac_text : Mac → List ℕ
 mac_text mac = join_with_byte 58 (map pair_text mac.0)
 
--- the words for the kinds of which scripts make no nodes
-abbrev pub built_in_word : Kind → List ℕ
-built_in_word kinds.PgInput = codes "pg-input"
-built_in_word kinds.HandoffDequeue = codes "handoff-dequeue"
-built_in_word kind = codes "error-drop"
-
--- the word for a kind
+-- the name of a kind, also of one that scripts make no nodes of
 abbrev pub kind_word : Kind → List ℕ
-kind_word kind = unwrap_or (kind_entry kind).word (built_in_word kind)
+kind_word kind = (kind_entry kind).name
 
 -- the count of a name
 abbrev pub counted_in : List (List ℕ × ℕ) → List ℕ → Option ℕ
@@ -101,7 +95,7 @@ node_line report number name kind =
     codes "  " ++ (node_id number ++ (codes " [label=" ++ (34 ∷ (name ++ (92 ∷ 110 ∷ (kind_word kind ++ (node_counts report name
     ++ (34 ∷ (codes "];" ++ (leaving number kind ++ 10 ∷ []))))))))))
 
--- the color of an arc over which no packet went
+-- the color of an arc: grey where its node passed no packet on. A report counts by node, so both arcs of a node have one color
 abbrev pub arc_color : Bool → List ℕ
 arc_color false = []
 arc_color true = codes ", color=grey, fontcolor=grey"

@@ -3,7 +3,7 @@ use Rattle.std.specs.Prelude.{◌≡◌, ℕ, List, length, slice_get, Option, S
 use Rattle.vg_model.specs.declared.kinds.Kind.{Kind}
 use Rattle.vg_model.specs.Graph.{Node}
 use Rattle.vg_report.specs.declared.reports.Report.{Report}
-use Rattle.vg_draw.specs.Drawing.{node_line, arc_line, arc_lines, numbered}
+use Rattle.vg_draw.specs.Drawing.{node_line, arc_line, numbered}
 
 -- there are as many lines as nodes, and each node's stands at the place of its number
 abbrev pub NodesStandOnce : Type 0

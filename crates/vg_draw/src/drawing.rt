@@ -76,7 +76,8 @@ fn put_adjacencies(out: &mut Vec<u8>, graph: &Graph) -> Result<(), AllocError>
 
 /// Appends the drawing of a generation's graph, in the DOT language: a line for each node with its name and its kind, for each arc with
 /// the name of its slot, and for each interface and each neighbor. With a report of a run the lines of the nodes have the visits and the
-/// drops by error too, those of the interfaces what was transmitted, and the arcs of nodes that passed no packet on are grey.
+/// drops by error too, those of the interfaces what was transmitted, and the arcs of nodes that passed no packet on are grey. A report
+/// counts by node, so both arcs of a node have one color. Of routes a drawing has no line: the script says which lead to a neighbor.
 ///
 /// The report counts over all generations, and its counts are found by name. The only error is want of memory.
 pub fn draw(

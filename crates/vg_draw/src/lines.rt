@@ -4,7 +4,7 @@ ghost use Rattle.vg_model.specs.Graph.{slots};
 ghost use Rattle.vg_draw.specs.Drawing.{id, dashed, leaving, node_line, arc_color, arc_line, state_text, interface_label, interface_line, adjacency_line, head_text};
 
 use crate::counts::{carries_nothing, put_interface_counts, put_node_counts};
-use crate::words::{kind_word, put, put_decimal, put_id, put_mac, slot_name};
+use crate::words::{put, put_decimal, put_id, put_kind, put_mac, slot_name};
 use std::alloc::AllocError;
 use vg_model::{Adjacency, Interface, Kind, Name};
 use vg_report::Report;
@@ -65,14 +65,14 @@ pub fn put_node_line(
     put_begin(out, b'n', number, b" [label=\"")?;
     put(out, name.bytes())?;
     put(out, b"\\n")?;
-    put(out, kind_word(kind).as_bytes())?;
+    put_kind(out, kind)?;
     put_node_counts(out, report, name)?;
     put(out, b"\"];")?;
     put_leaving(out, number, kind)?;
     put(out, b"\n")
 }
 
-// Appends the color of an arc.
+// Appends the color of an arc: grey where its node passed nothing on. A report counts by node, so both arcs of a node have one color.
 fn put_color(out: &mut Vec<u8>, nothing: bool) -> Result<(), AllocError>
     ensures { OnOk result (out.new.items ≡ out.old.items ++ arc_color nothing) }
 {

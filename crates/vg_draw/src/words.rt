@@ -3,11 +3,11 @@ ghost use Rattle.std.specs.Prelude.{◌≡◌, ◌<◌, ◌++◌, [], ◌∷◌,
 ghost use Rattle.std.specs.Char.{digit_char};
 ghost use Rattle.std.specs.List.{join_with_byte};
 ghost use Rattle.vg_model.specs.Graph.{slots};
-ghost use Rattle.vg_draw.specs.Drawing.{pair_text, mac_text, kind_word as word_of_kind, id, count_text};
+ghost use Rattle.vg_draw.specs.Drawing.{pair_text, mac_text, kind_word, id, count_text};
 
 use itoa::Buffer;
 use std::alloc::AllocError;
-use vg_model::{Kind, Mac};
+use vg_model::{Kind, KindWord, Mac};
 
 /// Appends these bytes.
 pub fn put(out: &mut Vec<u8>, bytes: &[u8]) -> Result<(), AllocError>
@@ -81,15 +81,15 @@ pub fn put_count(out: &mut Vec<u8>, word: &[u8], count: u64) -> Result<(), Alloc
     put_decimal(out, count)
 }
 
-/// The word for a kind.
-pub fn kind_word(kind: Kind) -> &'static str
-    ensures { result.now ≡ word_of_kind kind }
+/// Appends the name of a kind: a text, and the number behind it where the kind has one.
+pub fn put_kind(out: &mut Vec<u8>, kind: Kind) -> Result<(), AllocError>
+    ensures { OnOk result (out.new.items ≡ out.old.items ++ kind_word kind) }
 {
-    match kind {
-        Kind::PgInput => "pg-input",
-        Kind::HandoffDequeue => "handoff-dequeue",
-        Kind::ErrorDrop => "error-drop",
-        _ => kind.word().unwrap_or(""),
+    let KindWord { text, number } = kind.name();
+    put(out, text.as_bytes())?;
+    match number {
+        Some(number) => put_decimal(out, u64::from(number)),
+        None => Ok(()),
     }
 }
 
@@ -98,14 +98,5 @@ pub fn slot_name(kind: Kind, slot: u8) -> &'static str
     requires { slot < length (slots kind) }
     ensures { slice_get (slots kind) slot ≡ Some result.now }
 {
-    match kind {
-        Kind::PgInput | Kind::Pass => "out",
-        Kind::WorkerHandoff(_) => "resume",
-        Kind::EthernetInput => "ip4",
-        Kind::Ip4Input => "lookup",
-        Kind::Ip4Lookup => "rewrite",
-        Kind::Ip4Rewrite => "output",
-        Kind::InterfaceOutput => "tx",
-        Kind::HandoffDequeue | Kind::InterfaceTx | Kind::ErrorDrop => unreachable!(),
-    }
+    kind.slot_names()[usize::from(slot)]
 }

@@ -18,7 +18,8 @@ use Rattle.vg_model.specs.Visit.{Visit}
 use Rattle.vg_model.specs.Leg.{Outcome, Sent, Dropped, Handed}
 use Rattle.vg_model.specs.declared.kinds.DropError.TheVariants as errors
 use Rattle.vg_model.specs.Journey as model
-use Rattle.vg_model.specs.Journey.{Journey, end_of, sent, sent_as, longest_packet}
+use Rattle.vg_model.specs.Journey.{Journey, end_of, sent, sent_as, longest_extent}
+use Rattle.vg_model.specs.Packet.{Packet}
 use Rattle.vg_model.specs.Count.{trace, is_drop, is_sent_on}
 use Rattle.vg_capture.specs.declared.captures.Capture.{Capture}
 use Rattle.vg_plan.specs.Plan.{Planned, IsPlan}
@@ -35,7 +36,8 @@ use Rattle.vg_journeys.specs.Trips.{Run, Taken, number_of}
 use Rattle.vg_journeys.specs.Runs.{AllGrow}
 use Rattle.vg_journeys.specs.Ends.{IsShort}
 use Rattle.vg_journeys.specs.Accounts.{HandoffFrame, frames_with, arrivals_in, frame_arrivals, below}
-use Rattle.vg_journeys.specs.Kept.{AreKept, own_packets}
+use Rattle.vg_journeys.specs.Kept.{all_pieces, own_pieces, AreKept}
+use Rattle.vg_journeys.proofs.KeptLemmas.{pieces_most}
 use Rattle.vg_journeys.specs.Outcomes as whole
 use Rattle.vg_journeys.proofs.KeptLemmas.{kept_in_the_end, noted_length}
 use Rattle.vg_journeys.proofs.OutcomeLemmas.{outcome_is, outcome_js}
@@ -119,16 +121,16 @@ joined_map : {X Y : Type 0} (f : X → List Y) (xs : List X) → flat_map (λ (y
 joined_map f [] = refl
 joined_map f (x ∷ xs) = ap (λ ys. f x ++ ys) (joined_map f xs)
 
--- what is sent fits a buffer
-short_behind : (number : ℕ) (bytes : List ℕ) (outcome : Outcome) (behind : List (ℕ × List ℕ)) → IsShort outcome bytes → AllByRecursion (λ (s : ℕ × List ℕ). length s.1 ≤ longest_packet) behind
-    → AllByRecursion (λ (s : ℕ × List ℕ). length s.1 ≤ longest_packet) (cons_option (sent_as number bytes outcome) behind)
-short_behind number bytes (Sent interface) behind short rest = (short, rest)
-short_behind number bytes (Dropped node error) behind short rest = rest
-short_behind number bytes (Handed node worker) behind short rest = rest
+-- what is sent isn't long
+short_behind : (number : ℕ) (p : Packet) (outcome : Outcome) (behind : List (ℕ × List ℕ)) → IsShort outcome p → AllByRecursion (λ (s : ℕ × List ℕ). length s.1 ≤ longest_extent) behind
+    → AllByRecursion (λ (s : ℕ × List ℕ). length s.1 ≤ longest_extent) (cons_option (sent_as number p.bytes outcome) behind)
+short_behind number p (Sent interface) behind short rest = (omega (arith, short), rest)
+short_behind number p (Dropped node error) behind short rest = rest
+short_behind number p (Handed node worker) behind short rest = rest
 
-short_sent : (js : List Journey) → AllByRecursion (λ j. IsShort j.course.outcome j.course.packet.bytes) js → AllByRecursion (λ (s : ℕ × List ℕ). length s.1 ≤ longest_packet) (sent js)
+short_sent : (js : List Journey) → AllByRecursion (λ j. IsShort j.course.outcome j.course.packet) js → AllByRecursion (λ (s : ℕ × List ℕ). length s.1 ≤ longest_extent) (sent js)
 short_sent [] short = tt
-short_sent (j ∷ js) short = short_behind j.number j.course.packet.bytes j.course.outcome (sent js) short.0 (short_sent js short.1)
+short_sent (j ∷ js) short = short_behind j.number j.course.packet j.course.outcome (sent js) short.0 (short_sent js short.1)
 
 -- traces have few nodes
 short_traces : (most : ℕ) (js : List Journey) → AllByRecursion (λ j. length (trace j) ≤ most) js → length (flat_map trace js) ≤ most * length js
@@ -300,38 +302,37 @@ module _ (visit : Visit) (lossless : Bool) (plan : Planned) (capture : Capture) 
           let two = sizes 0 v.counts (omega arith) in
           record { nodes = one.nodes ∙ two.nodes; interfaces = one.interfaces ∙ two.interfaces }
 
-  -- a buffer was given out for each packet, and all are back, cache by cache
+  -- the chain of each packet was given out, and all are back, cache by cache
   pub record AreBack (caches : List CacheBook) : Type 0 where
     pub freed : sum_by (λ (c : CacheBook). c.freed) caches ≡ sum_by (λ (c : CacheBook). c.allocated) caches
-    pub allocated : sum_by (λ (c : CacheBook). c.allocated) caches ≡ length kept.js
-    pub each : map counts_of caches ≡ map (counts_on options.workers kept.js) (below options.workers)
+    pub allocated : sum_by (λ (c : CacheBook). c.allocated) caches ≡ all_pieces (run_of visit plan capture options).packets
+    pub each : map counts_of caches ≡ map (counts_on options.workers (run_of visit plan capture options).packets kept.js) (below options.workers)
 
   pub buffers_are : (caches : List CacheBook) → caches ≡ map (λ (w : WorkerBook). w.cache) ws → AreBack caches
   buffers_are caches is =
-      let freed : sum_by (λ (c : CacheBook). c.freed) caches ≡ length (run_of visit plan capture options).packets =
+      let freed : sum_by (λ (c : CacheBook). c.freed) caches ≡ all_pieces (run_of visit plan capture options).packets =
       ap (sum_by (λ (c : CacheBook). c.freed)) is ∙ sum_map (λ (c : CacheBook). c.freed) (λ (w : WorkerBook). w.cache) ws ∙ sum_by_number (λ a. a.freed) ws
       ∙ ap (λ n. sum_by (λ k. (account_at ws k).freed) (below n)) crew.count ∙ kept.freed in
-      let allocated : sum_by (λ (c : CacheBook). c.allocated) caches ≡ length (run_of visit plan capture options).packets =
+      let allocated : sum_by (λ (c : CacheBook). c.allocated) caches ≡ all_pieces (run_of visit plan capture options).packets =
       ap (sum_by (λ (c : CacheBook). c.allocated)) is ∙ sum_map (λ (c : CacheBook). c.allocated) (λ (w : WorkerBook). w.cache) ws ∙ sum_by_number (λ a. a.allocated) ws
       ∙ ap (λ n. sum_by (λ k. (account_at ws k).allocated) (below n)) crew.count ∙ kept.allocated in
       let counts : ℕ → ℕ → CacheCounts = λ allocated freed. record { allocated = allocated; freed = freed } in
-      let each : map counts_of caches ≡ map (counts_on options.workers kept.js) (below options.workers) =
+      let each : map counts_of caches ≡ map (counts_on options.workers (run_of visit plan capture options).packets kept.js) (below options.workers) =
       ap (map counts_of) is ∙ map_twice counts_of (λ (w : WorkerBook). w.cache) ws ∙ by_number (λ a. counts a.allocated a.freed) ws
       ∙ ap (λ n. map (λ k. counts (account_at ws k).allocated (account_at ws k).freed) (below n)) crew.count
-      ∙ map_below (λ k. counts (account_at ws k).allocated (account_at ws k).freed) (counts_on options.workers kept.js) options.workers
-      (λ k low. ap (λ n. counts n (account_at ws k).freed) (kept.allocated_by k low ∙ ap (own_packets options.workers k) (sym kept.as_many))
-      ∙ ap (counts (own_packets options.workers k (length kept.js))) (kept.freed_by k low)) in
-      record { freed = freed ∙ sym allocated; allocated = allocated ∙ sym kept.as_many; each = each }
+      ∙ map_below (λ k. counts (account_at ws k).allocated (account_at ws k).freed) (counts_on options.workers (run_of visit plan capture options).packets kept.js) options.workers
+      (λ k low. ap (λ n. counts n (account_at ws k).freed) (kept.allocated_by k low) ∙ ap (counts (own_pieces options.workers k (run_of visit plan capture options).packets)) (kept.freed_by k low)) in
+      record { freed = freed ∙ sym allocated; allocated = allocated; each = each }
 
   -- the settlement of their pool
-  pub settled_is : (caches : List CacheBook) (len : ℕ) → AreBack caches → len ≡ options.buffers → settlement_of options.buffers len caches ≡ all_back options.buffers options.workers kept.js
+  pub settled_is : (caches : List CacheBook) (len : ℕ) → AreBack caches → len ≡ options.buffers → settlement_of options.buffers len caches ≡ all_back options.buffers options.workers (run_of visit plan capture options).packets kept.js
   settled_is caches len back all =
-      let packets = kept.as_many in
+      let most = pieces_most (run_of visit plan capture options).packets in
       let same_packets : length (run_of visit plan capture options).packets ≡ length capture.packets = length-map capture.packets (λ captured. captured.bytes) in
       let allocated = back.allocated in
-      let told : min (sum_by (λ (c : CacheBook). c.allocated) caches) most_told ≡ length kept.js = omega (arith, allocated, packets, same_packets, few) in
+      let told : min (sum_by (λ (c : CacheBook). c.allocated) caches) most_told ≡ all_pieces (run_of visit plan capture options).packets = omega (arith, allocated, most, same_packets, few) in
       ap (λ n. settlement_of options.buffers n caches) all ∙ ap (λ n. record { len = options.buffers; total = options.buffers; allocated = n; caches = map counts_of caches }) told
-      ∙ ap (λ cs. record { len = options.buffers; total = options.buffers; allocated = length kept.js; caches = cs }) back.each
+      ∙ ap (λ cs. record { len = options.buffers; total = options.buffers; allocated = all_pieces (run_of visit plan capture options).packets; caches = cs }) back.each
 
   -- what was gathered is what the journeys say
   gathered_is : (fates : List Fate) (sent : List (ℕ × List ℕ)) (counts : Tally) (traces : List (List ℕ))
@@ -377,7 +378,7 @@ module _ (visit : Visit) (lossless : Bool) (plan : Planned) (capture : Capture) 
       → IsPermutation (flat_map (λ (log : List Fate). log) (map (λ (w : WorkerBook). w.log) ws)) outcome.fates → IsNonDecreasingBy (λ (f : Fate). f.number) outcome.fates
       → IsPermutation (flat_map (λ (list : List (ℕ × List ℕ)). list) (map (λ (w : WorkerBook). w.sent) ws)) outcome.sent → IsNonDecreasing (map (λ (s : ℕ × List ℕ). s.0) outcome.sent)
       → IsTotal (map (λ (w : WorkerBook). w.counts) ws) outcome.counts → IsMerged (map (λ (w : WorkerBook). w.trace) ws) outcome.trace
-      → outcome.buffers ≡ options.buffers → outcome.settled ≡ all_back options.buffers options.workers kept.js → IsLastGraph plan.graphs outcome.last → outcome.rests ≡ rests
+      → outcome.buffers ≡ options.buffers → outcome.settled ≡ all_back options.buffers options.workers (run_of visit plan capture options).packets kept.js → IsLastGraph plan.graphs outcome.last → outcome.rests ≡ rests
       → AllWith (IsEmptied (queues_of crew.ring ws)) (pairs options.workers) rests → length plan.graphs ≤ (main_view outcome.seat.seat).stamp
       → IsOutcome visit lossless plan.graphs (run_of visit plan capture options).first capture options outcome
   is_outcome outcome rests is fates_moved fates_rise sent_moved sent_rise total merged buffers settled last rests_is emptied stamp =
@@ -399,7 +400,7 @@ module _ (visit : Visit) (lossless : Bool) (plan : Planned) (capture : Capture) 
         lawful = kept.lawful;
         are_fates = done.are_fates ∙ ap model.fates same;
         are_sent = done.are_sent ∙ ap model.sent same;
-        short = subst (AllByRecursion (λ (s : ℕ × List ℕ). length s.1 ≤ longest_packet)) (sym (done.are_sent ∙ ap model.sent same)) (short_sent js kept.inside.short);
+        short = subst (AllByRecursion (λ (s : ℕ × List ℕ). length s.1 ≤ longest_extent)) (sym (done.are_sent ∙ ap model.sent same)) (short_sent js kept.inside.short);
         none_congested = none_congested_is outcome.fates fates_moved;
         counts = subst (λ l. whole.AreCounts l outcome.counts) same done.are_counts;
         whole = counts_whole outcome.counts total;

@@ -1,5 +1,5 @@
 -- For the clauses `rings` of a run's calls: the rings of workers' queues stay those of the links, and what is left of a queue is of its ring.
-use Rattle.std.proofs.Common.{◌≡◌, List, [], ◌∷◌, ◌++◌, Vec, Global, map, refl, sym, ap, ◌∙◌, append_assoc}
+use Rattle.std.proofs.Common.{◌≡◌, List, [], ◌∷◌, ◌++◌, Vec, Global, map, refl, ap, ◌∙◌, append_assoc}
 use Rattle.std.specs.Prelude.{Bool, Result, Ok, Err, IfOk, flat_map}
 use Rattle.std.proofs.lemmas.List.{map-append}
 use Rattle.vg_steps.specs.Seated.{TableId}

@@ -85,7 +85,7 @@ fn bad_byte(line: &[u8]) -> Option<Place> {
 fn speaks_of(cause: &str, wanted: Wanted) -> bool {
     match wanted {
         Wanted::Word(_) | Wanted::Choice | Wanted::Nothing => cause == "word",
-        Wanted::Name => cause == "name",
+        Wanted::Name | Wanted::Names => cause == "name",
         Wanted::Mac => cause == "mac",
         Wanted::Prefix => cause == "prefix",
         Wanted::Kind => cause == "kind",
@@ -144,13 +144,18 @@ pub fn refused_at(line: &[u8], words: &[Place], cause: &str) -> Place {
             .copied()
             .unwrap_or(*first);
     }
+    let mut before = statement;
     for (place, word) in words.iter().enumerate().skip(1) {
-        let wanted = wanted_at(statement, place);
+        let wanted = wanted_at(statement, place, before);
         let word_bytes = bytes_at(line, *word);
-        let is_only = wanted == Wanted::Mac || wanted == Wanted::Prefix || wanted == Wanted::Kind;
+        let is_only = matches!(
+            wanted,
+            Wanted::Names | Wanted::Mac | Wanted::Prefix | Wanted::Kind
+        );
         if speaks_of(cause, wanted) && (is_only || !is_as_wanted(statement, wanted, word_bytes)) {
             return *word;
         }
+        before = word_bytes;
     }
     end
 }

@@ -1,7 +1,12 @@
 //! What is wrong with a script, and its line with a mark under the word that is refused.
 
 use crate::marks::{Place, bytes_at, line_of, refused_at, words_of};
+use crate::statements::is_route;
 use std::alloc::{AllocError, Global};
+use std::fmt::Write;
+use vg_model::Kind;
+use vg_model::kinds::{CONNECT_TEXT, MATCH_TEXT, PUSH_TEXT, REWRITE_TEXT};
+use vg_model::limits::{LEAST_VLAN, MOST_INTERFACES, MOST_VLAN};
 
 /// The most bytes of a line that are shown.
 const MOST_SHOWN: usize = 160;
@@ -17,9 +22,13 @@ fn form_of(statement: &[u8]) -> &'static str {
     } else if statement == b"adjacency".as_slice() {
         "a neighbor is written `adjacency NAME interface NAME dst MAC`"
     } else if statement == b"route".as_slice() {
-        "a route is written `route PREFIX via NAME`, `route PREFIX local` or `route PREFIX drop`"
+        "a route is written `route PREFIX via NAMES`, `route PREFIX local` or `route PREFIX drop`"
     } else if statement == b"unroute".as_slice() {
         "a route is taken away by `unroute PREFIX`"
+    } else if statement == b"route6".as_slice() {
+        "an IPv6 route is written `route6 PREFIX6 via NAMES`, `route6 PREFIX6 local` or `route6 PREFIX6 drop`"
+    } else if statement == b"unroute6".as_slice() {
+        "an IPv6 route is taken away by `unroute6 PREFIX6`"
     } else if statement == b"at".as_slice() {
         "a block at a time is begun by `at MICROSECONDS`"
     } else if statement == b"process".as_slice() {
@@ -27,7 +36,7 @@ fn form_of(statement: &[u8]) -> &'static str {
     } else if statement == b"then".as_slice() || statement == b"end".as_slice() {
         "`then` and `end` stand alone on their line"
     } else {
-        "a line begins with interface, node, arc, adjacency, route, unroute, at, process, then or end"
+        "a line begins with interface, node, arc, adjacency, route, unroute, route6, unroute6, at, process, then or end"
     }
 }
 
@@ -42,31 +51,51 @@ fn range_of(statement: &[u8]) -> &'static str {
     }
 }
 
-/// The sentence for a cause of which each has one.
-fn sentence(cause: &str) -> &'static str {
-    if cause == "too-large" {
+/// What a name is, or the names of a route.
+fn name_sentence(statement: &[u8]) -> &'static str {
+    if is_route(statement) {
+        "a route leads via 1 to 16 names parted by `,` without blanks, each of 1 to 32 letters, digits, `-`, `_` and `.`"
+    } else {
+        "a name is 1 to 32 letters, digits, `-`, `_` and `.`"
+    }
+}
+
+/// What a prefix is, of IPv4 or of IPv6.
+fn prefix_sentence(statement: &[u8]) -> &'static str {
+    if statement == b"route6".as_slice() || statement == b"unroute6".as_slice() {
+        "an IPv6 prefix is eight groups of 1 to 4 hexadecimal digits parted by `:`, where `::` may stand once for groups that are 0, then `/` and 0 to 128, with no bit set behind that length, as 2001:db8::/32"
+    } else {
+        "a prefix is four numbers up to 255 parted by `.`, then `/` and 0 to 32, with no bit set behind that length, as 10.1.0.0/16"
+    }
+}
+
+/// The sentence for a cause other than `kind`, by the first word of the line and the word that is marked.
+fn sentence(cause: &str, statement: &[u8], word: &[u8]) -> &'static str {
+    if cause == "word" {
+        form_of(statement)
+    } else if cause == "number" {
+        range_of(statement)
+    } else if cause == "too-large" {
         "it has more than 262144 bytes"
     } else if cause == "bytes" {
         "this byte may stand in comments alone: outside of them a script has visible ASCII, spaces and tabs"
     } else if cause == "name" {
-        "a name is 1 to 32 letters, digits, `-`, `_` and `.`"
+        name_sentence(statement)
     } else if cause == "mac" {
         "an address is six pairs of hexadecimal digits parted by `:`, as 02:fe:00:00:00:00"
     } else if cause == "prefix" {
-        "a prefix is four numbers up to 255 parted by `.`, then `/` and 0 to 32, with no bit set behind that length, as 10.1.0.0/16"
-    } else if cause == "kind" {
-        "the kinds are handoff-flow, handoff-src, handoff-dst, ethernet-input, ip4-input, ip4-lookup, ip4-rewrite, interface-output, interface-tx and pass"
+        prefix_sentence(statement)
     } else if cause == "block" {
         "`at` and `process` begin a block, which `end` closes before another begins and before the script ends; `then` stands in a process alone"
     } else if cause == "too-many-generations" {
         "all runs of all blocks together are 999 at most"
     } else {
-        edit_sentence(cause)
+        edit_sentence(cause, word)
     }
 }
 
-/// The sentence for an edit that can't be made.
-fn edit_sentence(cause: &str) -> &'static str {
+/// The sentence for an edit that can't be made, by the word that is marked.
+fn edit_sentence(cause: &str, word: &[u8]) -> &'static str {
     if cause == "double-name" {
         "a node has this name already"
     } else if cause == "unknown-node" {
@@ -78,14 +107,30 @@ fn edit_sentence(cause: &str) -> &'static str {
     } else if cause == "cycle" {
         "over this arc a packet could come back to where it was"
     } else if cause == "too-many" {
-        "there are as many as may be: 64 nodes, 16 interfaces, 256 neighbors, 4096 routes"
+        "there are as many as may be: 64 nodes, 16 interfaces, 256 neighbors, 4096 routes of IPv4 and 4096 of IPv6"
     } else if cause == "unknown-interface" {
         "no interface has this name here: an interface is made above its first use"
+    } else if cause == "unknown-adjacency" && word.contains(&b',') {
+        "one of these names is no neighbor's here: `adjacency` makes a neighbor above its first use"
     } else if cause == "unknown-adjacency" {
         "no neighbor has this name here: `adjacency` makes one above its first use"
     } else {
         "there is no route with this very prefix"
     }
+}
+
+/// Appends the sentence for a word that is no kind: all kinds, as the model names them.
+fn push_kinds(out: &mut String) -> Result<(), AllocError> {
+    out.push_str("the kinds are ")?;
+    for kind in &Kind::PLAIN {
+        out.push_str(kind.name().text)?;
+        out.push_str(", ")?;
+    }
+    let last = MOST_INTERFACES - 1;
+    write!(
+        out,
+        "{MATCH_TEXT}N, {PUSH_TEXT}N and {REWRITE_TEXT}N with a VLAN id N from {LEAST_VLAN} to {MOST_VLAN}, and {CONNECT_TEXT}N with the number N of an interface from 0 to {last}"
+    )
 }
 
 /// Appends a line as far as it is shown; bytes that aren't visible are shown as `?`.
@@ -131,18 +176,17 @@ pub fn script_fault(
         Some(first) => bytes_at(line, *first),
         None => &[],
     };
+    let refused = refused_at(line, words.as_slice(), cause);
     let mut out = String::new(alloc);
-    out.push_str(if cause == "word" {
-        form_of(statement)
-    } else if cause == "number" {
-        range_of(statement)
+    if cause == "kind" {
+        push_kinds(&mut out)?;
     } else {
-        sentence(cause)
-    })?;
+        out.push_str(sentence(cause, statement, bytes_at(line, refused)))?;
+    }
     out.push('\n')?;
     if number > 0 {
         push_line(&mut out, line)?;
-        push_mark(&mut out, line, refused_at(line, words.as_slice(), cause))?;
+        push_mark(&mut out, line, refused)?;
     }
     Ok(out)
 }

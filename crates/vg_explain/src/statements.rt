@@ -11,7 +11,10 @@ pub enum Wanted {
     /// One of the words behind an mtu, or behind a prefix.
     Choice,
     Name,
+    /// The names of neighbors, parted by `,`.
+    Names,
     Mac,
+    /// A prefix of the statement's width.
     Prefix,
     Kind,
     Number { least: u64, most: u64 },
@@ -62,14 +65,25 @@ fn of_process(place: usize) -> Wanted {
     }
 }
 
+fn of_route(place: usize, before: &[u8]) -> Wanted {
+    match place {
+        1 => Wanted::Prefix,
+        2 => Wanted::Choice,
+        3 if before == b"via".as_slice() => Wanted::Names,
+        _ => Wanted::Nothing,
+    }
+}
+
 /// The words that a line begins with.
-const STATEMENTS: [&str; 10] = [
+const STATEMENTS: [&str; 12] = [
     "interface",
     "node",
     "arc",
     "adjacency",
     "route",
     "unroute",
+    "route6",
+    "unroute6",
     "at",
     "process",
     "then",
@@ -83,8 +97,18 @@ pub fn is_statement(word: &[u8]) -> bool {
         .any(|statement| statement.as_bytes() == word)
 }
 
-/// What is wanted at a place of the statement that begins with this word; its own place is 0.
-pub fn wanted_at(statement: &[u8], place: usize) -> Wanted {
+/// Whether a statement sets a route, of IPv4 or of IPv6.
+pub fn is_route(statement: &[u8]) -> bool {
+    statement == b"route".as_slice() || statement == b"route6".as_slice()
+}
+
+/// Whether a statement takes a route away, of IPv4 or of IPv6.
+fn is_unroute(statement: &[u8]) -> bool {
+    statement == b"unroute".as_slice() || statement == b"unroute6".as_slice()
+}
+
+/// What is wanted at a place of the statement that begins with this word, behind the word before that place; its own place is 0.
+pub fn wanted_at(statement: &[u8], place: usize, before: &[u8]) -> Wanted {
     if statement == b"interface".as_slice() {
         of_interface(place)
     } else if statement == b"adjacency".as_slice() {
@@ -103,14 +127,9 @@ pub fn wanted_at(statement: &[u8], place: usize) -> Wanted {
             1 | 2 | 3 => Wanted::Name,
             _ => Wanted::Nothing,
         }
-    } else if statement == b"route".as_slice() {
-        match place {
-            1 => Wanted::Prefix,
-            2 => Wanted::Choice,
-            3 => Wanted::Name,
-            _ => Wanted::Nothing,
-        }
-    } else if statement == b"unroute".as_slice() {
+    } else if is_route(statement) {
+        of_route(place, before)
+    } else if is_unroute(statement) {
         match place {
             1 => Wanted::Prefix,
             _ => Wanted::Nothing,
@@ -147,7 +166,7 @@ fn is_number(word: &[u8], least: u64, most: u64) -> bool {
 
 /// Whether a word is one of the choices at this place of a statement.
 fn is_choice(statement: &[u8], word: &[u8]) -> bool {
-    if statement == b"route".as_slice() {
+    if is_route(statement) {
         word == b"via".as_slice() || word == b"local".as_slice() || word == b"drop".as_slice()
     } else {
         word == b"up".as_slice() || word == b"down".as_slice()
@@ -161,7 +180,7 @@ pub fn is_as_wanted(statement: &[u8], wanted: Wanted, word: &[u8]) -> bool {
         Wanted::Choice => is_choice(statement, word),
         Wanted::Name => Name::of(word).is_some(),
         Wanted::Number { least, most } => is_number(word, least, most),
-        Wanted::Mac | Wanted::Prefix | Wanted::Kind => true,
+        Wanted::Names | Wanted::Mac | Wanted::Prefix | Wanted::Kind => true,
         Wanted::Nothing => false,
     }
 }

@@ -5,10 +5,11 @@ use Rattle.std.proofs.lemmas.List.{get_or_append_left, get_or-append_right, get_
 use Rattle.std.proofs.lemmas.Bool.{cases_eq, cases_lt}
 use Rattle.std.specs.Prelude.{if◌then◌else◌}
 use Rattle.vg_model.specs.declared.routes.Prefix.{Prefix}
+use Rattle.vg_model.specs.Route.{ip4, covers_of}
 use Rattle.vg_fib.specs.declared.trie.Entry.{Entry}
 use Rattle.vg_fib.specs.declared.trie.Entry.TheVariants.{Leaf, Child}
-use Rattle.vg_fib.specs.Laws.{prefix_covers}
 use Rattle.vg_fib.specs.Trie.{number_in, number_under, number_by, HasChildren, AreLevels, IsRaised, IsRaisedSecond, AreRaised}
+use Rattle.vg_fib.proofs.PrefixLemmas.{are4}
 use Rattle.vg_fib.proofs.SpanLemmas.{addresses, chosen_by_span, short_span, middle_span, long_span}
 
 -- what stands at a place, where a place without an entry has no route
@@ -197,11 +198,11 @@ second_child_levels first second third place child number levels here whole =
 pub short_numbers : (prefix : Prefix) (f : ℕ → ℕ) (first second : List Entry) (third : List ℕ) (new newer : List Entry) (newest : List ℕ)
     → prefix.addr < 2 ^ 32 → prefix.len ≤ 16
     → AreRaised f (prefix.addr / 65536) (2 ^ (16 - prefix.len)) first second third new newer newest
-    → (address : ℕ) → number_by new newer newest address ≡ (if prefix_covers prefix address then f (number_by first second third address) else number_by first second third address)
+    → (address : ℕ) → number_by new newer newest address ≡ (if covers_of ip4 prefix address then f (number_by first second third address) else number_by first second third address)
 short_numbers prefix f first second third new newer newest bound short raised address =
     let span = short_span prefix bound short in
     let q = address / 65536 in
-    chosen_by_span prefix address (f (number_by first second third address)) (number_by first second third address) (number_by new newer newest address)
+    chosen_by_span are4 prefix address (f (number_by first second third address)) (number_by first second third address) (number_by new newer newest address)
     (λ inside. raised.inside q address (omega (arith, span.at, span.is, inside.0, inside.1)) (omega (arith, span.at, span.is, inside.0, inside.1)))
     (λ not. raised.outside q address (λ low high. not (omega (arith, span.at, span.is, low, high), omega (arith, span.at, span.is, low, high))))
 
@@ -210,12 +211,12 @@ pub middle_numbers : (prefix : Prefix) (f : ℕ → ℕ) (child : ℕ) (first se
     → AreLevels first second third → 16 < prefix.len → prefix.len ≤ 24
     → entry first (prefix.addr / 65536) ≡ Child child
     → IsRaisedSecond f (256 * child + prefix.addr / 256 % 256) (2 ^ (24 - prefix.len)) second third new newer
-    → (address : ℕ) → number_by first new newer address ≡ (if prefix_covers prefix address then f (number_by first second third address) else number_by first second third address)
+    → (address : ℕ) → number_by first new newer address ≡ (if covers_of ip4 prefix address then f (number_by first second third address) else number_by first second third address)
 middle_numbers prefix f child first second third new newer levels longer middle parent raised address =
     let span = middle_span prefix longer middle in
     let q = address / 65536 in
     let m = address / 256 % 256 in
-    chosen_by_span prefix address (f (number_by first second third address)) (number_by first second third address) (number_by first new newer address)
+    chosen_by_span are4 prefix address (f (number_by first second third address)) (number_by first second third address) (number_by first new newer address)
     (λ inside.
     let is : prefix.addr / 65536 ≡ q = omega (arith, span.at, span.is, span.fits, inside.0, inside.1) in
     let under : entry first q ≡ Child child = subst (λ k. entry first k ≡ Child child) is parent in
@@ -234,12 +235,12 @@ pub long_numbers : (prefix : Prefix) (f : ℕ → ℕ) (parent child : ℕ) (fir
     → entry first (prefix.addr / 65536) ≡ Child parent
     → entry second (256 * parent + prefix.addr / 256 % 256) ≡ Child child
     → IsRaised f (256 * child + prefix.addr % 256) (addresses prefix) third new
-    → (address : ℕ) → number_by first second new address ≡ (if prefix_covers prefix address then f (number_by first second third address) else number_by first second third address)
+    → (address : ℕ) → number_by first second new address ≡ (if covers_of ip4 prefix address then f (number_by first second third address) else number_by first second third address)
 long_numbers prefix f parent child first second third new levels longer above under raised address =
     let fits = long_span prefix longer in
     let q = address / 65536 in
     let m = address / 256 % 256 in
-    chosen_by_span prefix address (f (number_by first second third address)) (number_by first second third address) (number_by first second new address)
+    chosen_by_span are4 prefix address (f (number_by first second third address)) (number_by first second third address) (number_by first second new address)
     (λ inside.
     let is : prefix.addr / 65536 ≡ q = omega (arith, fits, inside.0, inside.1) in
     let is_m : prefix.addr / 256 % 256 ≡ m = omega (arith, fits, inside.0, inside.1) in

@@ -1,4 +1,5 @@
 pub mod BestLemmas
+pub mod CutLemmas
 pub mod LevelLemmas
 pub mod ListLemmas
 pub mod LongestLemmas

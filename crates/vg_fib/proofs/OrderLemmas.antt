@@ -7,15 +7,14 @@ use Rattle.std.proofs.lemmas.List.{get_or_append_left, get_or_push, get_or-map, 
 use Rattle.std.proofs.lemmas.List.Edits.{length-insert, get_or-insert_below, get_or-insert_at, get_or-insert_above, length-remove, get_or-remove_below, get_or-remove_above}
 use Rattle.std.specs.Prelude.{Some, None, remove, nat_lt, if◌then◌else◌}
 use Rattle.std.specs.List.{insert, AllByRecursion}
-use Rattle.vg_model.specs.declared.routes.Prefix.{Prefix}
 use Rattle.vg_model.specs.declared.routes.RouteTo.{RouteTo}
 use Rattle.vg_model.specs.declared.routes.RouteTo.TheVariants.{Local}
-use Rattle.vg_model.specs.Route.{same_prefix}
-use Rattle.vg_model.specs.Edit.{route_place, most_routes}
-use Rattle.vg_fib.specs.Table.{Routes, IsTable}
+use Rattle.vg_model.specs.Edit.{most_routes, place_in}
+use Rattle.vg_model.specs.Route.{PrefixKind, RoutesOf, is_same}
+use Rattle.vg_fib.specs.Table.{IsTable}
 use Rattle.vg_fib.specs.Order.{rank, ranks, rank_at, IsOrder, StandsIn, IsGap, moved_down}
 use Rattle.vg_fib.proofs.ListLemmas.{position_none}
-use Rattle.vg_fib.proofs.PrefixLemmas.{same_is_one, same_itself}
+use Rattle.vg_fib.proofs.PrefixLemmas.{ArePrefixes, same_itself}
 use Rattle.vg_fib.proofs.TableLemmas.{stands_where_found, table_push, table_remove}
 
 -- nothing is in order
@@ -234,102 +233,11 @@ order_remove ranks order after at gone is inside e same =
           ];
     }
 
--- two prefixes of one rank are one
-pub one_rank : (p q : Prefix) → rank p ≡ rank q → (p.addr ≡ q.addr) × (p.len ≡ q.len)
-one_rank p q e = let few = p.few in let few' = q.few in (omega (arith, e, few, few'), omega (arith, e, few, few'))
-
-same_by_rank : (p q : Prefix) → rank p ≡ rank q → p ≡ q
-same_by_rank p q e =
-    let parts = one_rank p q e in
-    let same : same_prefix p q ≡ true = rw (parts.0, parts.1) (same_itself q) in
-    same_is_one p q same
-
--- what fails of all fails of each
-fails_at : (prefix : Prefix) (routes : Routes) (i : ℕ) (d : Prefix × RouteTo)
-    → AllByRecursion (λ route. same_prefix route.0 prefix ≡ false) routes → i < length routes → same_prefix (get_or routes i d).0 prefix ≡ false
-fails_at prefix [] i d all h = absurd (omega (arith, h))
-fails_at prefix (route ∷ routes) zero d all h = all.0
-fails_at prefix (route ∷ routes) (suc i) d all h = fails_at prefix routes i d all.1 (omega (arith, h))
-
--- the rank at a place is that of the route there
-rank_there : (routes : Routes) (place : ℕ) (d : Prefix × RouteTo) → place < length routes → get_or (ranks routes) place 0 ≡ rank (get_or routes place d).0
-rank_there routes place d h = get_or-map (λ route. rank route.0) routes place d 0 h
-
--- a prefix that has a route stands in the order
-found_stands : (prefix : Prefix) (routes : Routes) (order : List ℕ) (place : ℕ) → IsOrder (ranks routes) order → route_place prefix routes ≡ Some place
-    → (j : ℕ) × (j < length order) × (get_or order j 0 ≡ place) × (rank_at (ranks routes) order j ≡ rank prefix)
-found_stands prefix routes order place is e =
-    let stands = stands_where_found prefix routes place (prefix, Local) e in
-    let len : length (ranks routes) ≡ length routes = length-map routes (λ route. rank route.0) in
-    let there = is.each place (omega (arith, len, stands.within)) in
-    (there.0, there.1, there.2, ap (λ n. get_or (ranks routes) n 0) there.2 ∙ rank_there routes place (prefix, Local) stands.within ∙ ap rank stands.is)
-
--- what stands in the order is found
-pub place_found : (prefix : Prefix) (routes : Routes) (order : List ℕ) (i : ℕ) → IsOrder (ranks routes) order
-    → StandsIn (ranks routes) order (rank prefix) i → route_place prefix routes ≡ Some (get_or order i 0)
-place_found prefix routes order i is stands =
-    elim (route_place prefix routes) as (λ found. route_place prefix routes ≡ found → found ≡ Some (get_or order i 0)) [
-      | Some place ↦ λ e.
-          let there = found_stands prefix routes order place is e in
-          let same = stands_once (ranks routes) order there.0 i is there.1 stands.inside (there.3 ∙ sym stands.is) in
-          ap Some (sym there.2 ∙ ap (λ k. get_or order k 0) same)
-      | None ↦ λ e.
-          let len : length (ranks routes) ≡ length routes = length-map routes (λ route. rank route.0) in
-          let within : get_or order i 0 < length routes = omega (arith, len, is.within i stands.inside) in
-          let fails = fails_at prefix routes (get_or order i 0) (prefix, Local) (position_none (λ route. same_prefix route.0 prefix) 0 routes e) within in
-          let one = same_by_rank (get_or routes (get_or order i 0) (prefix, Local)).0 prefix (sym (rank_there routes (get_or order i 0) (prefix, Local) within) ∙ stands.is) in
-          let passes : same_prefix (get_or routes (get_or order i 0) (prefix, Local)).0 prefix ≡ true = subst (λ p. same_prefix p prefix ≡ true) (sym one) (same_itself prefix) in
-          absurd (let bad : ⊥ = cc in bad)
-    ] refl
-
--- where there is a gap, nothing is found
-pub gap_none : (prefix : Prefix) (routes : Routes) (order : List ℕ) (i : ℕ) → IsOrder (ranks routes) order
-    → IsGap (ranks routes) order (rank prefix) i → route_place prefix routes ≡ None
-gap_none prefix routes order i is gap =
-    elim (route_place prefix routes) as (λ found. route_place prefix routes ≡ found → found ≡ None) [
-      | Some place ↦ λ e.
-          let there = found_stands prefix routes order place is e in
-          elim (cases_lt there.0 i) [
-            | inl below ↦ absurd (omega (arith, there.3, gap.lower there.0 below))
-            | inr above ↦ absurd (omega (arith, there.3, gap.higher there.0 above there.1))
-          ]
-      | None ↦ λ e. refl
-    ] refl
-
--- a route changed in its place leaves the order
-pub order_set : (prefix : Prefix) (to : RouteTo) (routes : Routes) (order : List ℕ) (place : ℕ) → IsOrder (ranks routes) order
-    → route_place prefix routes ≡ Some place → IsOrder (ranks (set routes place (prefix, to))) order
-order_set prefix to routes order place is e =
-    let stands = stands_where_found prefix routes place (prefix, to) e in
-    subst (λ rs. IsOrder rs order) (sym (map-set_same (λ route. rank route.0) routes place (prefix, to) (prefix, to) (ap rank (sym stands.is)))) is
-
--- a new route behind the others, with its place in the gap, leaves an order
-pub order_push : (prefix : Prefix) (to : RouteTo) (routes : Routes) (order : List ℕ) (at : ℕ) → IsOrder (ranks routes) order
-    → IsGap (ranks routes) order (rank prefix) at → IsOrder (ranks (routes ++ (prefix, to) ∷ [])) (insert order at (length routes))
-order_push prefix to routes order at is gap =
-    let len : length (ranks routes) ≡ length routes = length-map routes (λ route. rank route.0) in
-    subst (λ rs. IsOrder rs (insert order at (length routes))) (sym (map_push (λ route. rank route.0) routes (prefix, to)))
-    (subst (λ n. IsOrder (ranks routes ++ rank prefix ∷ []) (insert order at n)) len (order_insert (ranks routes) order (rank prefix) at is gap))
-
 map-remove : {X Y : Type 0} (f : X → Y) (xs : List X) (i : ℕ) → map f (remove xs i) ≡ remove (map f xs) i
 map-remove f xs i =
     map-append f (take i xs) (drop (suc i) xs)
     ∙ ap (λ ys. ys ++ map f (drop (suc i) xs)) (sym (take-map f i xs))
     ∙ ap (λ ys. take i (map f xs) ++ ys) (sym (drop-map f (suc i) xs))
-
--- a route that is taken out, and the places behind it moved down, leave an order
-pub order_take : (routes : Routes) (order after : List ℕ) (at gone : ℕ) → IsOrder (ranks routes) order → at < length order → gone ≡ get_or order at 0
-    → after ≡ map (moved_down gone) (remove order at) → IsOrder (ranks (remove routes gone)) after
-order_take routes order after at gone is inside e same =
-    subst (λ rs. IsOrder rs after) (sym (map-remove (λ route. rank route.0) routes gone)) (order_remove (ranks routes) order after at gone is inside e same)
-
--- the rank that was read at a place of the order
-pub rank_read : (routes : Routes) (order : List ℕ) (i place : ℕ) (route : Prefix × RouteTo) → IsOrder (ranks routes) order → i < length order
-    → place ≡ get_or order i 0 → route ≡ get_or routes place route → rank_at (ranks routes) order i ≡ rank (get_or routes place route).0
-rank_read routes order i place route is inside e read =
-    let len : length (ranks routes) ≡ length routes = length-map routes (λ route. rank route.0) in
-    let within : place < length routes = omega (arith, e, len, is.within i inside) in
-    ap (λ n. get_or (ranks routes) n 0) (sym e) ∙ rank_there routes place route within
 
 -- where the rank here is lower, those before it are
 pub lower_up_to : (ranks order : List ℕ) (i rank : ℕ) → IsOrder ranks order → i < length order → rank_at ranks order i < rank
@@ -357,54 +265,147 @@ higher_from ranks order i rank is high k h inside = elim (cases_order k i) [
 pub written : (n : ℕ) (xs ys : List ℕ) → length xs ≡ n → length ys ≡ n → take n (xs ++ drop (length xs) ys) ≡ xs
 written n xs ys e f = take_at xs (drop (length xs) ys) n e
 
--- a prefix has its route at this place, of which the order says so here
-pub record IsAt (prefix : Prefix) (seen kept : Routes) (order : List ℕ) (at place : ℕ) : Type 0 where
-  pub of_seen : route_place prefix seen ≡ Some place
-  pub of_kept : route_place prefix kept ≡ Some place
-  pub within : place < length kept
-  pub inside : at < length order
-  pub item : place ≡ get_or order at 0
+module _ {P : Type 0} {kind : PrefixKind P} (are : ArePrefixes kind) where
+  -- two prefixes of one rank are one
+  pub one_rank : (p q : P) → rank kind p ≡ rank kind q → (kind.addr p ≡ kind.addr q) × (kind.len p ≡ kind.len q)
+  one_rank p q e = let few : kind.len p ≤ kind.width = are.few p in let few' : kind.len q ≤ kind.width = are.few q in let narrow : kind.width < 256 = are.narrow in
+      (omega (arith, e, few, few', narrow), omega (arith, e, few, few', narrow))
 
--- a place that was found and read
-pub place_read : (prefix : Prefix) (seen kept shown : Routes) (order row : List ℕ) (at item place : ℕ) → kept ≡ seen → shown ≡ kept → row ≡ order
-    → (at < length row) × (route_place prefix shown ≡ Some (get_or row at 0)) → item ≡ get_or order at item → place ≡ item
-    → IsAt prefix seen kept order at place
-place_read prefix seen kept shown order row at item place view rows orders found read is =
-    let inside : at < length order = subst (λ xs. at < length xs) orders found.0 in
-    let here : place ≡ get_or order at 0 = is ∙ (read ∙ get_or_default order at item 0 inside) in
-    let of_kept : route_place prefix kept ≡ Some place =
-    ap (route_place prefix) (sym rows) ∙ found.1 ∙ ap (λ xs. Some (get_or xs at 0)) orders ∙ ap Some (sym here) in
-    record {
-      of_seen = ap (route_place prefix) (sym view) ∙ of_kept;
-      of_kept = of_kept;
-      within = (stands_where_found prefix kept place (prefix, Local) of_kept).within;
-      inside = inside;
-      item = here;
-    }
+  same_by_rank : (p q : P) → rank kind p ≡ rank kind q → p ≡ q
+  same_by_rank p q e =
+      let parts = one_rank p q e in
+      let same : is_same kind p q ≡ true = rw (parts.0, parts.1) (same_itself are q) in
+      are.one p q same
 
--- a table and its order, once the route that was found is taken out and the places behind it are moved down
-pub taken : (prefix : Prefix) (seen kept left : Routes) (order middle after : List ℕ) (at gone place : ℕ) → IsTable kept × IsOrder (ranks kept) order
-    → IsAt prefix seen kept order at place → place ≡ gone → left ≡ remove kept place → middle ≡ remove order at → after ≡ map (moved_down gone) middle
-    → IsTable left × IsOrder (ranks left) after
-taken prefix seen kept left order middle after at gone place is found same rows row moved =
-    let table : IsTable (remove kept place) = table_remove kept place (prefix, Local) is.0 found.within in
-    let here : IsOrder (ranks (remove kept place)) after = order_take kept order after at place is.1 found.inside found.item
-    (moved ∙ ap (λ xs. map (moved_down gone) xs) row ∙ ap (λ n. map (moved_down n) (remove order at)) (sym same)) in
-    (subst IsTable (sym rows) table, subst (λ rs. IsOrder (ranks rs) after) (sym rows) here)
+  -- what fails of all fails of each
+  fails_at : (prefix : P) (routes : RoutesOf P) (i : ℕ) (d : P × RouteTo)
+      → AllByRecursion (λ route. is_same kind route.0 prefix ≡ false) routes → i < length routes → is_same kind (get_or routes i d).0 prefix ≡ false
+  fails_at prefix [] i d all h = absurd (omega (arith, h))
+  fails_at prefix (route ∷ routes) zero d all h = all.0
+  fails_at prefix (route ∷ routes) (suc i) d all h = fails_at prefix routes i d all.1 (omega (arith, h))
 
--- a table and its order, once a route is put behind the others and its place into the gap
-pub pushed : (prefix : Prefix) (to : RouteTo) (kept shown more : Routes) (order row after : List ℕ) (at : ℕ) → IsTable kept × IsOrder (ranks kept) order
-    → shown ≡ kept → row ≡ order → (route_place prefix shown ≡ None) × IsGap (ranks shown) row (rank prefix) at → length kept < most_routes
-    → more ≡ kept ++ (prefix, to) ∷ [] → after ≡ insert order at (length kept) → IsTable more × IsOrder (ranks more) after
-pushed prefix to kept shown more order row after at is rows orders gap room longer filled =
-    let none : route_place prefix kept ≡ None = ap (route_place prefix) (sym rows) ∙ gap.0 in
-    let here : IsGap (ranks kept) order (rank prefix) at =
-    subst (λ rs. IsGap (ranks rs) order (rank prefix) at) rows (subst (λ xs. IsGap (ranks shown) xs (rank prefix) at) orders gap.1) in (
-      subst IsTable (sym longer) (table_push prefix to kept is.0 none room),
-      subst (λ rs. IsOrder (ranks rs) after) (sym longer) (subst (IsOrder (ranks (kept ++ (prefix, to) ∷ []))) (sym filled) (order_push prefix to kept order at is.1 here)),
-    )
+  -- the rank at a place is that of the route there
+  rank_there : (routes : RoutesOf P) (place : ℕ) (d : P × RouteTo) → place < length routes → get_or (ranks kind routes) place 0 ≡ rank kind (get_or routes place d).0
+  rank_there routes place d h = get_or-map (λ route. rank kind route.0) routes place d 0 h
 
--- a table and its order that stay
-pub stayed : (kept more : Routes) (order after : List ℕ) → IsTable kept × IsOrder (ranks kept) order → more ≡ kept → after ≡ order → IsTable more × IsOrder (ranks more) after
-stayed kept more order after is rows row =
-    (subst IsTable (sym rows) is.0, subst (λ rs. IsOrder (ranks rs) after) (sym rows) (subst (IsOrder (ranks kept)) (sym row) is.1))
+  -- a prefix that has a route stands in the order
+  found_stands : (prefix : P) (routes : RoutesOf P) (order : List ℕ) (place : ℕ) → IsOrder (ranks kind routes) order → place_in kind prefix routes ≡ Some place
+      → (j : ℕ) × (j < length order) × (get_or order j 0 ≡ place) × (rank_at (ranks kind routes) order j ≡ rank kind prefix)
+  found_stands prefix routes order place is e =
+      let stands = stands_where_found are prefix routes place (prefix, Local) e in
+      let len : length (ranks kind routes) ≡ length routes = length-map routes (λ route. rank kind route.0) in
+      let there = is.each place (omega (arith, len, stands.within)) in
+      (there.0, there.1, there.2, ap (λ n. get_or (ranks kind routes) n 0) there.2 ∙ rank_there routes place (prefix, Local) stands.within ∙ ap (rank kind) stands.is)
+
+  -- what stands in the order is found
+  pub place_found : (prefix : P) (routes : RoutesOf P) (order : List ℕ) (i : ℕ) → IsOrder (ranks kind routes) order
+      → StandsIn (ranks kind routes) order (rank kind prefix) i → place_in kind prefix routes ≡ Some (get_or order i 0)
+  place_found prefix routes order i is stands =
+      elim (place_in kind prefix routes) as (λ found. place_in kind prefix routes ≡ found → found ≡ Some (get_or order i 0)) [
+        | Some place ↦ λ e.
+            let there = found_stands prefix routes order place is e in
+            let same = stands_once (ranks kind routes) order there.0 i is there.1 stands.inside (there.3 ∙ sym stands.is) in
+            ap Some (sym there.2 ∙ ap (λ k. get_or order k 0) same)
+        | None ↦ λ e.
+            let len : length (ranks kind routes) ≡ length routes = length-map routes (λ route. rank kind route.0) in
+            let within : get_or order i 0 < length routes = omega (arith, len, is.within i stands.inside) in
+            let fails = fails_at prefix routes (get_or order i 0) (prefix, Local) (position_none (λ route. is_same kind route.0 prefix) 0 routes e) within in
+            let one = same_by_rank (get_or routes (get_or order i 0) (prefix, Local)).0 prefix (sym (rank_there routes (get_or order i 0) (prefix, Local) within) ∙ stands.is) in
+            let passes : is_same kind (get_or routes (get_or order i 0) (prefix, Local)).0 prefix ≡ true = subst (λ p. is_same kind p prefix ≡ true) (sym one) (same_itself are prefix) in
+            absurd (let bad : ⊥ = cc in bad)
+      ] refl
+
+  -- where there is a gap, nothing is found
+  pub gap_none : (prefix : P) (routes : RoutesOf P) (order : List ℕ) (i : ℕ) → IsOrder (ranks kind routes) order
+      → IsGap (ranks kind routes) order (rank kind prefix) i → place_in kind prefix routes ≡ None
+  gap_none prefix routes order i is gap =
+      elim (place_in kind prefix routes) as (λ found. place_in kind prefix routes ≡ found → found ≡ None) [
+        | Some place ↦ λ e.
+            let there = found_stands prefix routes order place is e in
+            elim (cases_lt there.0 i) [
+              | inl below ↦ absurd (omega (arith, there.3, gap.lower there.0 below))
+              | inr above ↦ absurd (omega (arith, there.3, gap.higher there.0 above there.1))
+            ]
+        | None ↦ λ e. refl
+      ] refl
+
+  -- a route changed in its place leaves the order
+  pub order_set : (prefix : P) (to : RouteTo) (routes : RoutesOf P) (order : List ℕ) (place : ℕ) → IsOrder (ranks kind routes) order
+      → place_in kind prefix routes ≡ Some place → IsOrder (ranks kind (set routes place (prefix, to))) order
+  order_set prefix to routes order place is e =
+      let stands = stands_where_found are prefix routes place (prefix, to) e in
+      subst (λ rs. IsOrder rs order) (sym (map-set_same (λ route. rank kind route.0) routes place (prefix, to) (prefix, to) (ap (rank kind) (sym stands.is)))) is
+
+  -- a new route behind the others, with its place in the gap, leaves an order
+  pub order_push : (prefix : P) (to : RouteTo) (routes : RoutesOf P) (order : List ℕ) (at : ℕ) → IsOrder (ranks kind routes) order
+      → IsGap (ranks kind routes) order (rank kind prefix) at → IsOrder (ranks kind (routes ++ (prefix, to) ∷ [])) (insert order at (length routes))
+  order_push prefix to routes order at is gap =
+      let len : length (ranks kind routes) ≡ length routes = length-map routes (λ route. rank kind route.0) in
+      subst (λ rs. IsOrder rs (insert order at (length routes))) (sym (map_push (λ route. rank kind route.0) routes (prefix, to)))
+      (subst (λ n. IsOrder (ranks kind routes ++ rank kind prefix ∷ []) (insert order at n)) len (order_insert (ranks kind routes) order (rank kind prefix) at is gap))
+
+  -- a route that is taken out, and the places behind it moved down, leave an order
+  pub order_take : (routes : RoutesOf P) (order after : List ℕ) (at gone : ℕ) → IsOrder (ranks kind routes) order → at < length order → gone ≡ get_or order at 0
+      → after ≡ map (moved_down gone) (remove order at) → IsOrder (ranks kind (remove routes gone)) after
+  order_take routes order after at gone is inside e same =
+      subst (λ rs. IsOrder rs after) (sym (map-remove (λ route. rank kind route.0) routes gone)) (order_remove (ranks kind routes) order after at gone is inside e same)
+
+  -- the rank that was read at a place of the order
+  pub rank_read : (routes : RoutesOf P) (order : List ℕ) (i place : ℕ) (route : P × RouteTo) → IsOrder (ranks kind routes) order → i < length order
+      → place ≡ get_or order i 0 → route ≡ get_or routes place route → rank_at (ranks kind routes) order i ≡ rank kind (get_or routes place route).0
+  rank_read routes order i place route is inside e read =
+      let len : length (ranks kind routes) ≡ length routes = length-map routes (λ route. rank kind route.0) in
+      let within : place < length routes = omega (arith, e, len, is.within i inside) in
+      ap (λ n. get_or (ranks kind routes) n 0) (sym e) ∙ rank_there routes place route within
+
+  -- a prefix has its route at this place, of which the order says so here
+  pub record IsAt (prefix : P) (seen kept : RoutesOf P) (order : List ℕ) (at place : ℕ) : Type 0 where
+    pub of_seen : place_in kind prefix seen ≡ Some place
+    pub of_kept : place_in kind prefix kept ≡ Some place
+    pub within : place < length kept
+    pub inside : at < length order
+    pub item : place ≡ get_or order at 0
+
+  -- a place that was found and read
+  pub place_read : (prefix : P) (seen kept shown : RoutesOf P) (order row : List ℕ) (at item place : ℕ) → kept ≡ seen → shown ≡ kept → row ≡ order
+      → (at < length row) × (place_in kind prefix shown ≡ Some (get_or row at 0)) → item ≡ get_or order at item → place ≡ item
+      → IsAt prefix seen kept order at place
+  place_read prefix seen kept shown order row at item place view rows orders found read is =
+      let inside : at < length order = subst (λ xs. at < length xs) orders found.0 in
+      let here : place ≡ get_or order at 0 = is ∙ (read ∙ get_or_default order at item 0 inside) in
+      let of_kept : place_in kind prefix kept ≡ Some place =
+      ap (place_in kind prefix) (sym rows) ∙ found.1 ∙ ap (λ xs. Some (get_or xs at 0)) orders ∙ ap Some (sym here) in
+      record {
+        of_seen = ap (place_in kind prefix) (sym view) ∙ of_kept;
+        of_kept = of_kept;
+        within = (stands_where_found are prefix kept place (prefix, Local) of_kept).within;
+        inside = inside;
+        item = here;
+      }
+
+  -- a table and its order, once the route that was found is taken out and the places behind it are moved down
+  pub taken : (prefix : P) (seen kept left : RoutesOf P) (order middle after : List ℕ) (at gone place : ℕ) → IsTable kind kept × IsOrder (ranks kind kept) order
+      → IsAt prefix seen kept order at place → place ≡ gone → left ≡ remove kept place → middle ≡ remove order at → after ≡ map (moved_down gone) middle
+      → IsTable kind left × IsOrder (ranks kind left) after
+  taken prefix seen kept left order middle after at gone place is found same rows row moved =
+      let table : IsTable kind (remove kept place) = table_remove are kept place (prefix, Local) is.0 found.within in
+      let here : IsOrder (ranks kind (remove kept place)) after = order_take kept order after at place is.1 found.inside found.item
+      (moved ∙ ap (λ xs. map (moved_down gone) xs) row ∙ ap (λ n. map (moved_down n) (remove order at)) (sym same)) in
+      (subst (IsTable kind) (sym rows) table, subst (λ rs. IsOrder (ranks kind rs) after) (sym rows) here)
+
+  -- a table and its order, once a route is put behind the others and its place into the gap
+  pub pushed : (prefix : P) (to : RouteTo) (kept shown more : RoutesOf P) (order row after : List ℕ) (at : ℕ) → IsTable kind kept × IsOrder (ranks kind kept) order
+      → shown ≡ kept → row ≡ order → (place_in kind prefix shown ≡ None) × IsGap (ranks kind shown) row (rank kind prefix) at → length kept < most_routes
+      → more ≡ kept ++ (prefix, to) ∷ [] → after ≡ insert order at (length kept) → IsTable kind more × IsOrder (ranks kind more) after
+  pushed prefix to kept shown more order row after at is rows orders gap room longer filled =
+      let none : place_in kind prefix kept ≡ None = ap (place_in kind prefix) (sym rows) ∙ gap.0 in
+      let here : IsGap (ranks kind kept) order (rank kind prefix) at =
+      subst (λ rs. IsGap (ranks kind rs) order (rank kind prefix) at) rows (subst (λ xs. IsGap (ranks kind shown) xs (rank kind prefix) at) orders gap.1) in (
+        subst (IsTable kind) (sym longer) (table_push are prefix to kept is.0 none room),
+        subst (λ rs. IsOrder (ranks kind rs) after) (sym longer) (subst (IsOrder (ranks kind (kept ++ (prefix, to) ∷ []))) (sym filled) (order_push prefix to kept order at is.1 here)),
+      )
+
+  -- a table and its order that stay
+  pub stayed : (kept more : RoutesOf P) (order after : List ℕ) → IsTable kind kept × IsOrder (ranks kind kept) order → more ≡ kept → after ≡ order → IsTable kind more × IsOrder (ranks kind more) after
+  stayed kept more order after is rows row =
+      (subst (IsTable kind) (sym rows) is.0, subst (λ rs. IsOrder (ranks kind rs) after) (sym rows) (subst (IsOrder (ranks kind kept)) (sym row) is.1))

@@ -5,15 +5,16 @@ use Rattle.std.proofs.lemmas.Bool.{eqb-true, eq-eqb, false≢true}
 use Rattle.std.proofs.lemmas.Nat.{pow_pos, pow-add, mod-pow-add, div-add-mod', div-mul-add, row_fits, mod_below}
 use Rattle.std.specs.Prelude.{if◌then◌else◌}
 use Rattle.vg_model.specs.declared.routes.Prefix.{Prefix}
-use Rattle.vg_fib.specs.Laws.{prefix_covers}
+use Rattle.vg_model.specs.Route.{PrefixKind, covers_of}
+use Rattle.vg_fib.proofs.PrefixLemmas.{ArePrefixes}
 
 -- how many addresses a prefix covers
 abbrev pub addresses : Prefix → ℕ
 addresses prefix = 2 ^ (32 - prefix.len)
 
 -- an address is in the span of a prefix
-abbrev pub InSpan : Prefix → ℕ → Type 0
-InSpan prefix address = (prefix.addr ≤ address) × (address < prefix.addr + addresses prefix)
+abbrev pub InSpan : {P : Type 0} → PrefixKind P → P → ℕ → Type 0
+InSpan kind prefix address = (kind.addr prefix ≤ address) × (address < kind.addr prefix + 2 ^ (kind.width - kind.len prefix))
 
 by_parts : (x y d m n r : ℕ) → m + 0 ≡ x → n + r ≡ y → m ≡ n → r < d → (x ≤ y) × (y < x + d)
 by_parts x y d m n r e f g h = (omega arith, omega arith)
@@ -32,25 +33,26 @@ span_quotient x y d whole low high =
     let is : x / d * d + (y - x) ≡ y = omega arith in
     sym (subst (λ z. z / d ≡ x / d) is (div-mul-add (x / d) d (y - x) behind))
 
--- a covered address is in the span
-pub span_from_covers : (prefix : Prefix) (address : ℕ) → prefix_covers prefix address ≡ true → InSpan prefix address
-span_from_covers prefix address covers =
-    quotient_span prefix.addr address (addresses prefix) (pow_pos (32 - prefix.len)) prefix.host_bits (eqb-true _ _ covers)
+module _ {P : Type 0} {kind : PrefixKind P} (are : ArePrefixes kind) where
+  -- a covered address is in the span
+  pub span_from_covers : (prefix : P) (address : ℕ) → covers_of kind prefix address ≡ true → InSpan kind prefix address
+  span_from_covers prefix address covers =
+      quotient_span (kind.addr prefix) address (2 ^ (kind.width - kind.len prefix)) (pow_pos (kind.width - kind.len prefix)) (are.host_bits prefix) (eqb-true _ _ covers)
 
--- an address in the span is covered
-pub covers_from_span : (prefix : Prefix) (address : ℕ) → InSpan prefix address → prefix_covers prefix address ≡ true
-covers_from_span prefix address inside =
-    eq-eqb _ _ (span_quotient prefix.addr address (addresses prefix) prefix.host_bits inside.0 inside.1)
+  -- an address in the span is covered
+  pub covers_from_span : (prefix : P) (address : ℕ) → InSpan kind prefix address → covers_of kind prefix address ≡ true
+  covers_from_span prefix address inside =
+      eq-eqb _ _ (span_quotient (kind.addr prefix) address (2 ^ (kind.width - kind.len prefix)) (are.host_bits prefix) inside.0 inside.1)
 
--- a choice by whether a prefix covers, from its two cases
-pub chosen_by_span : (prefix : Prefix) (address number old new : ℕ)
-    → (InSpan prefix address → new ≡ number) → ((InSpan prefix address → ⊥) → new ≡ old)
-    → new ≡ (if prefix_covers prefix address then number else old)
-chosen_by_span prefix address number old new inside outside =
-    elim (prefix_covers prefix address) as (λ b. prefix_covers prefix address ≡ b → new ≡ (if b then number else old)) [
-      | true ↦ λ e. inside (span_from_covers prefix address e)
-      | false ↦ λ e. outside (λ there. false≢true (sym e ∙ covers_from_span prefix address there))
-    ] refl
+  -- a choice by whether a prefix covers, from its two cases
+  pub chosen_by_span : (prefix : P) (address number old new : ℕ)
+      → (InSpan kind prefix address → new ≡ number) → ((InSpan kind prefix address → ⊥) → new ≡ old)
+      → new ≡ (if covers_of kind prefix address then number else old)
+  chosen_by_span prefix address number old new inside outside =
+      elim (covers_of kind prefix address) as (λ b. covers_of kind prefix address ≡ b → new ≡ (if b then number else old)) [
+        | true ↦ λ e. inside (span_from_covers prefix address e)
+        | false ↦ λ e. outside (λ there. false≢true (sym e ∙ covers_from_span prefix address there))
+      ] refl
 
 -- a multiple of a power of two is one of each lower power, and so is its quotient by that
 split : (x w j k : ℕ) → w ≡ j + k → x % 2 ^ w ≡ 0 → (x % 2 ^ k ≡ 0) × (x / 2 ^ k % 2 ^ j ≡ 0)

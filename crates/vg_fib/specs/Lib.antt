@@ -1,4 +1,6 @@
 pub mod Laws
+pub mod Numbers
 pub mod Order
+pub mod Spans
 pub mod Table
 pub mod Trie

@@ -1,15 +1,14 @@
 -- The order of a table's prefixes, by which a prefix is found.
 use Rattle.std.specs.Prelude.{◌≡◌, ℕ, ◌+◌, ◌-◌, ◌*◌, ◌<◌, ◌≤◌, nat_lt, List, length, map, slice_index, if◌then◌else◌}
-use Rattle.vg_model.specs.declared.routes.Prefix.{Prefix}
-use Rattle.vg_fib.specs.Table.{Routes}
+use Rattle.vg_model.specs.Route.{PrefixKind, RoutesOf}
 
--- a number by which prefixes are in order: by their address, then by their length, which is at most 32
-abbrev pub rank : Prefix → ℕ
-rank prefix = 64 * prefix.addr + prefix.len
+-- a number by which prefixes are in order: by their address, then by their length, which is at most 128
+abbrev pub rank : {P : Type 0} → PrefixKind P → P → ℕ
+rank kind prefix = 256 * kind.addr prefix + kind.len prefix
 
 -- the ranks of the prefixes of routes, by place
-abbrev pub ranks : Routes → List ℕ
-ranks routes = map (λ route. rank route.0) routes
+abbrev pub ranks : {P : Type 0} → PrefixKind P → RoutesOf P → List ℕ
+ranks kind routes = map (λ route. rank kind route.0) routes
 
 -- the rank of the prefix whose place stands here in the order
 abbrev pub rank_at : List ℕ → List ℕ → ℕ → ℕ

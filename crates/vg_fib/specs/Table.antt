@@ -1,22 +1,29 @@
 -- Tables of routes (this project's profile).
-use Rattle.std.specs.Prelude.{ℕ, ◌≤◌, List, length, map, Option, Some, None, nat_lt, if◌then◌else◌}
+use Rattle.std.specs.Prelude.{ℕ, ◌≤◌, length, map, Option, Some, None, nat_lt, if◌then◌else◌}
 use Rattle.std.specs.List.{IsDistinct}
 use Rattle.vg_model.specs.declared.routes.Prefix.{Prefix}
-use Rattle.vg_model.specs.declared.routes.RouteTo.{RouteTo}
-use Rattle.vg_model.specs.Route.{same_prefix}
+use Rattle.vg_model.specs.declared.routes.Prefix6.{Prefix6}
+use Rattle.vg_model.specs.Route.{PrefixKind, RoutesOf, ip4, is_same}
 use Rattle.vg_model.specs.Edit.{most_routes}
 
--- routes: each a prefix and where it leads
+-- IPv4 routes
 abbrev pub Routes : Type 0
-Routes = List (Prefix × RouteTo)
+Routes = RoutesOf Prefix
+
+-- IPv6 routes
+abbrev pub Routes6 : Type 0
+Routes6 = RoutesOf Prefix6
 
 -- no prefix stands twice
+abbrev pub HasOneEach : {P : Type 0} → PrefixKind P → RoutesOf P → Type 0
+HasOneEach kind routes = IsDistinct (is_same kind) (map (λ route. route.0) routes)
+
 abbrev pub HasOneRouteEach : Routes → Type 0
-HasOneRouteEach routes = IsDistinct same_prefix (map (λ route. route.0) routes)
+HasOneRouteEach routes = HasOneEach ip4 routes
 
 -- a table of routes: no prefix stands twice, and there are no more than may be
-pub record IsTable (routes : Routes) : Type 0 where
-  pub one_route_each : HasOneRouteEach routes
+pub record IsTable {P : Type 0} (kind : PrefixKind P) (routes : RoutesOf P) : Type 0 where
+  pub one_route_each : HasOneEach kind routes
   pub few : length routes ≤ most_routes
 
 -- the longer of the longest route so far, if there is one, and a route behind it

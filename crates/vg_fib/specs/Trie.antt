@@ -1,12 +1,12 @@
 -- The trie of routes (strides of 16, 8 and 8 bits).
-use Rattle.std.specs.Prelude.{ℕ, zero, suc, Bool, true, false, Option, None, Some, option_map, slice_get, nat_lt, ◌≡◌, ◌+◌, ◌*◌, ◌/◌, ◌%◌, ◌^◌, ◌<◌, ◌≤◌, List, length, slice_index_or, if◌then◌else◌}
+use Rattle.std.specs.Prelude.{ℕ, ◌≡◌, ◌+◌, ◌*◌, ◌/◌, ◌%◌, ◌^◌, ◌<◌, ◌≤◌, List, length, slice_index_or, if◌then◌else◌}
 use Rattle.vg_model.specs.declared.routes.Prefix.{Prefix}
-use Rattle.vg_model.specs.declared.routes.RouteTo.{RouteTo}
+use Rattle.vg_model.specs.Route.{ip4, covers_of}
 use Rattle.vg_fib.specs.Table.{Routes, IsTable}
 use Rattle.vg_fib.specs.declared.trie.Entry.{Entry}
 use Rattle.vg_fib.specs.declared.trie.Entry.TheVariants.{Leaf, Child}
 use Rattle.vg_fib.specs.declared.trie.Levels.{Levels}
-use Rattle.vg_fib.specs.Laws.{prefix_covers}
+use Rattle.vg_fib.specs.Numbers.{IsBestOf}
 
 -- the number that an entry of the second level gives to an address
 abbrev pub number_in : List ℕ → Entry → ℕ → ℕ
@@ -85,7 +85,7 @@ IsRaisedFirst f from count old new =
 pub record IsPut (prefix : Prefix) (f : ℕ → ℕ) (old new : Levels) : Type 0 where
   pub shape : IsLevels new
   pub numbers : (address : ℕ) → address < 2 ^ 32
-      → number_at new address ≡ (if prefix_covers prefix address then f (number_at old address) else number_at old address)
+      → number_at new address ≡ (if covers_of ip4 prefix address then f (number_at old address) else number_at old address)
   pub second_grows : length new.second.items ≤ length old.second.items + 256
   pub third_grows : length new.third.items ≤ length old.third.items + 256
 
@@ -106,68 +106,14 @@ pub record GivesSecondChild (place child : ℕ) (old new : Levels) : Type 0 wher
   pub first : new.first.items ≡ old.first.items
   pub second : length new.second.items ≡ length old.second.items
 
--- how many bits a route's prefix has, and 0 where there is no route
-abbrev pub length_if : Option (Prefix × RouteTo) → ℕ
-length_if None = 0
-length_if (Some route) = route.0.len
-
--- how many bits the prefix at a place has, and 0 behind the routes
-abbrev pub length_at : Routes → ℕ → ℕ
-length_at routes place = length_if (slice_get routes place)
-
--- how many bits the prefix of a number has: of the route at the place before it, and 0 where the number is no route's
-abbrev pub length_of : Routes → ℕ → ℕ
-length_of routes zero = 0
-length_of routes (suc place) = length_at routes place
-
--- of two numbers that of the longer prefix, and the first where none is longer
-abbrev pub longer_of : Routes → ℕ → ℕ → ℕ
-longer_of routes number old = if nat_lt (length_of routes number) (length_of routes old) then old else number
-
--- whether a route covers an address
-abbrev pub covers_if : Option (Prefix × RouteTo) → ℕ → Bool
-covers_if None address = false
-covers_if (Some route) address = prefix_covers route.0 address
-
--- whether the prefix at a place covers an address
-abbrev pub covers_at : Routes → ℕ → ℕ → Bool
-covers_at routes place address = covers_if (slice_get routes place) address
-
--- the prefix at this place covers the address, and of these places none that covers it has a longer one
-pub record IsLongestOf (routes : Routes) (places : ℕ → Type 0) (address place : ℕ) : Type 0 where
-  pub within : place < length routes
-  pub covers : covers_at routes place address ≡ true
-  pub longest : (k : ℕ) → k < length routes → places k → covers_at routes k address ≡ true → length_at routes k ≤ length_at routes place
-
--- an address's number among these places: that of the longest prefix that covers it, or 0 where none of them covers it
-abbrev pub IsBestOf : Routes → (ℕ → Type 0) → ℕ → ℕ → Type 0
-IsBestOf routes places address zero = (k : ℕ) → k < length routes → places k → covers_at routes k address ≡ false
-IsBestOf routes places address (suc place) = IsLongestOf routes places address place
-
 -- the first so many routes are put into these levels: each address has its best number among them
 pub record HasFirst (routes : Routes) (known : ℕ) (levels : Levels) : Type 0 where
   pub shape : IsLevels levels
-  pub numbers : (address : ℕ) → address < 2 ^ 32 → IsBestOf routes (λ k. k < known) address (number_at levels address)
+  pub numbers : (address : ℕ) → address < 2 ^ 32 → IsBestOf ip4 routes (λ k. k < known) address (number_at levels address)
   pub second_few : length levels.second.items ≤ 256 * known
   pub third_few : length levels.third.items ≤ 256 * known
 
 -- all routes are put into these levels, and are a table's
 pub record IsTrie (routes : Routes) (levels : Levels) : Type 0 where
-  pub table : IsTable routes
+  pub table : IsTable ip4 routes
   pub has : HasFirst routes (length routes) levels
-
--- the target of a number: that of the route at the place before it, and none for 0
-abbrev pub target_of : Routes → ℕ → Option RouteTo
-target_of routes zero = None
-target_of routes (suc place) = option_map (λ route. route.1) (slice_get routes place)
-
--- the prefixes of some routes are the first of these, in the same order
-pub record BeginsWith (routes first : Routes) : Type 0 where
-  pub few : length first ≤ length routes
-  pub same : (k : ℕ) (d : Prefix × RouteTo) → k < length first → (slice_index_or first k d).0 ≡ (slice_index_or routes k d).0
-
--- these are the places from one on, below another
-pub record AreFrom (known all : ℕ) (order : List ℕ) : Type 0 where
-  pub count : length order + known ≡ all
-  pub within : (i : ℕ) → i < length order → slice_index_or order i 0 < all
-  pub each : (k : ℕ) → known ≤ k → k < all → (i : ℕ) × (i < length order) × (slice_index_or order i 0 ≡ k)

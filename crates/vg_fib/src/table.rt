@@ -1,7 +1,7 @@
-//! The table of routes.
+//! The table of IPv4 routes.
 ghost use Rattle.std.specs.Prelude.{◌≡◌, ◌↔◌, ℕ, ◌<◌, ◌≤◌, ◌∷◌, ◌++◌, [], length, map, remove, slice_index, IfErr, IfOk, IsErr, IsOk, IsTrue, OnErr, OnOk, MatchOption, MatchResult};
 ghost use Rattle.std.specs.List.{insert};
-ghost use Rattle.vg_model.specs.Route.{best_route, covers as covers_address};
+ghost use Rattle.vg_model.specs.Route.{best_route, covers as covers_address, ip4};
 ghost use Rattle.vg_model.specs.Edit.{most_routes, placed, route_place};
 ghost use Rattle.vg_fib.specs.Table.{HasOneRouteEach, longer_behind};
 ghost use Rattle.vg_fib.specs.declared.table.FibError.TheVariants.{Memory as OutOfMemory};
@@ -54,7 +54,7 @@ impl fmt::Display for NoSuchRoute {
 
 impl Error for NoSuchRoute {}
 
-/// A forwarding information base: a list of routes, at most [`MOST_ROUTES`], in which no prefix stands twice.
+/// A forwarding information base of IPv4: a list of routes, at most [`MOST_ROUTES`], in which no prefix stands twice.
 #[derive(Drop)]
 pub struct Fib {
     routes: Vec<(Prefix, RouteTo)>,
@@ -63,6 +63,7 @@ pub struct Fib {
 }
 
 impl Model for Fib {
+    ghost use Rattle.vg_model.specs.Route.{ip4};
     ghost use Rattle.vg_fib.specs.Table.{Routes, IsTable};
     ghost use Rattle.vg_fib.specs.Order.{IsOrder, ranks};
 
@@ -70,7 +71,7 @@ impl Model for Fib {
 
     ghost view = { λ fib. fib.routes.items };
 
-    ghost invariant = { λ fib. IsTable fib.routes.items × IsOrder (ranks fib.routes.items) fib.order.items };
+    ghost invariant = { λ fib. IsTable ip4 fib.routes.items × IsOrder (ranks ip4 fib.routes.items) fib.order.items };
 }
 
 impl Fib {
@@ -192,9 +193,9 @@ impl Fib {
 
 // A number by which prefixes are in order, and no two have the same.
 fn rank(prefix: Prefix) -> u64
-    ensures { result ≡ rank_of prefix }
+    ensures { result ≡ rank_of ip4 prefix }
 {
-    64 * u64::from(prefix.addr) + u64::from(prefix.len)
+    256 * u64::from(prefix.addr) + u64::from(prefix.len)
 }
 
 // Where the place of a prefix stands in the order, or where it would have to be put.
@@ -203,10 +204,10 @@ fn place_in_order(
     order: &[u16],
     prefix: Prefix,
 ) -> Result<usize, usize>
-    requires { IsOrder (ranks routes.now) order.now }
+    requires { IsOrder (ranks ip4 routes.now) order.now }
     ensures { MatchResult result
         (λ at. (at < length order.now) × (route_place prefix routes.now ≡ Some (slice_index order.now at)))
-        (λ at. (route_place prefix routes.now ≡ None) × IsGap (ranks routes.now) order.now (rank_of prefix) at) }
+        (λ at. (route_place prefix routes.now ≡ None) × IsGap (ranks ip4 routes.now) order.now (rank_of ip4 prefix) at) }
 {
     let wanted = rank(prefix);
     let mut from = 0;
@@ -227,11 +228,11 @@ fn place_in_order(
 }
 
 // Adds a route behind the others, and its place to the order. Without memory both stay as they were.
-fn add(
-    routes: &mut Vec<(Prefix, RouteTo)>,
+pub(crate) fn add<R: Copy + Drop>(
+    routes: &mut Vec<R>,
     order: &mut Vec<u16>,
     at: usize,
-    route: (Prefix, RouteTo),
+    route: R,
 ) -> Result<(), AllocError>
     requires few { length routes.old.items < MOST_ROUTES }
     requires at { at ≤ length order.old.items }
@@ -255,7 +256,7 @@ pub(crate) fn overwrite<T: Copy + Drop>(list: &mut Vec<T>, values: &[T]) -> Resu
 }
 
 // The places behind one that was taken out are one less.
-fn close_gap(order: &mut [u16], place: u16)
+pub(crate) fn close_gap(order: &mut [u16], place: u16)
     ensures { order.new ≡ map (moved_down place) order.old }
 {
     for other in order.iter_mut() {

@@ -1,8 +1,10 @@
 //! The trie of IPv4 routes, for look-ups in the packet path.
 ghost use Rattle.std.specs.Prelude.{◌≡◌, ℕ, true, ◌+◌, ◌*◌, ◌<◌, ◌≤◌, ◌^◌, ◌-◌, ◌/◌, ◌%◌, ◌++◌, IfOk, [], length, replicate};
-ghost use Rattle.vg_model.specs.Route.{best_route};
+ghost use Rattle.std.specs.Option.{option_copied};
+ghost use Rattle.vg_model.specs.Route.{best_route, ip4};
 ghost use Rattle.vg_model.specs.Edit.{most_routes};
-ghost use Rattle.vg_fib.specs.Trie.{AreFrom, BeginsWith, GivesFirstChild, GivesSecondChild, HasChildren, HasFirst, IsLevels, IsPut, IsRaised, IsRaisedFirst, IsRaisedSecond, length_at, length_of, longer_of, number_at, Spare};
+ghost use Rattle.vg_fib.specs.Numbers.{AreFrom, BeginsWith, length_at, length_of, longer_of};
+ghost use Rattle.vg_fib.specs.Trie.{GivesFirstChild, GivesSecondChild, HasChildren, HasFirst, IsLevels, IsPut, IsRaised, IsRaisedFirst, IsRaisedSecond, number_at, Spare};
 
 use crate::table::{Fib, overwrite};
 use std::alloc::{AllocError, Global};
@@ -111,7 +113,7 @@ impl Levels {
     ) -> Result<(), AllocError>
         requires shape { IsLevels self.old }
         requires room { Spare self.old }
-        ensures { IfOk result (λ _. IsPut prefix (longer_of routes.now number) self.old self.new) }
+        ensures { IfOk result (λ _. IsPut prefix (longer_of ip4 routes.now number) self.old self.new) }
     {
         if prefix.len <= 16 {
             self.put_short(routes, prefix, number);
@@ -127,7 +129,7 @@ impl Levels {
     fn put_short(&mut self, routes: &[(Prefix, RouteTo)], prefix: Prefix, number: u16)
         requires shape { IsLevels self.old }
         requires short { prefix.len ≤ 16 }
-        ensures { IsPut prefix (longer_of routes.now number) self.old self.new }
+        ensures { IsPut prefix (longer_of ip4 routes.now number) self.old self.new }
     {
         let from = prefix.addr as usize >> 16;
         let count = 1 << (16 - prefix.len);
@@ -145,7 +147,7 @@ impl Levels {
         requires room { Spare self.old }
         requires longer { 16 < prefix.len }
         requires middle { prefix.len ≤ 24 }
-        ensures { IfOk result (λ _. IsPut prefix (longer_of routes.now number) self.old self.new) }
+        ensures { IfOk result (λ _. IsPut prefix (longer_of ip4 routes.now number) self.old self.new) }
     {
         let address = prefix.addr as usize;
         let child = self.first_child(address >> 16)?;
@@ -172,7 +174,7 @@ impl Levels {
         requires shape { IsLevels self.old }
         requires room { Spare self.old }
         requires longer { 24 < prefix.len }
-        ensures { IfOk result (λ _. IsPut prefix (longer_of routes.now number) self.old self.new) }
+        ensures { IfOk result (λ _. IsPut prefix (longer_of ip4 routes.now number) self.old self.new) }
     {
         let address = prefix.addr as usize;
         let parent = self.first_child(address >> 16)?;
@@ -187,7 +189,7 @@ impl Levels {
     fn raise_first(&mut self, routes: &[(Prefix, RouteTo)], number: u16, from: usize, count: usize)
         requires shape { IsLevels self.old }
         requires places { from + count ≤ 65536 }
-        ensures { IsRaisedFirst (longer_of routes.now number) from count self.old self.new }
+        ensures { IsRaisedFirst (longer_of ip4 routes.now number) from count self.old self.new }
     {
         for place in from..from + count {
             match self.first[place] {
@@ -325,14 +327,21 @@ impl Mtrie {
     }
 
     /// The target of the longest prefix that covers an address, which is in the host's order; `None`
-    /// exactly where no prefix covers it. It takes no memory.
-    pub fn find(&self, address: u32) -> Option<RouteTo>
-        ensures { result ≡ best_route self.now address }
+    /// exactly where no prefix covers it. It takes no memory, and copies no list of adjacencies.
+    pub fn target(&self, address: u32) -> Option<&RouteTo>
+        ensures { option_copied result ≡ best_route self.now address }
     {
         match self.levels.number(address) {
             0 => None,
-            number => Some(self.routes[number as usize - 1].1),
+            number => Some(&self.routes[number as usize - 1].1),
         }
+    }
+
+    /// The same as [`Mtrie::target`], as a value.
+    pub fn find(&self, address: u32) -> Option<RouteTo>
+        ensures { result ≡ best_route self.now address }
+    {
+        self.target(address).copied()
     }
 }
 
@@ -371,7 +380,7 @@ fn by_length(
 
 // How many bits the prefix at a place has; 0 behind the routes.
 fn length_at(routes: &[(Prefix, RouteTo)], place: usize) -> u8
-    ensures { result ≡ length_at routes.now place }
+    ensures { result ≡ length_at ip4 routes.now place }
 {
     match routes.get(place) {
         Some(route) => route.0.len,
@@ -381,7 +390,7 @@ fn length_at(routes: &[(Prefix, RouteTo)], place: usize) -> u8
 
 // How many bits the prefix of a number has; 0 where the number is no route's.
 fn length_of(routes: &[(Prefix, RouteTo)], number: u16) -> u8
-    ensures { result ≡ length_of routes.now number }
+    ensures { result ≡ length_of ip4 routes.now number }
 {
     match number {
         0 => 0,
@@ -391,7 +400,7 @@ fn length_of(routes: &[(Prefix, RouteTo)], number: u16) -> u8
 
 // Which of two numbers stands where both routes cover: the new one, unless the old one's prefix is longer.
 fn longer_of(routes: &[(Prefix, RouteTo)], number: u16, old: u16) -> u16
-    ensures { result ≡ longer_of routes.now number old }
+    ensures { result ≡ longer_of ip4 routes.now number old }
 {
     if length_of(routes, number) < length_of(routes, old) {
         old
@@ -411,7 +420,7 @@ fn raise_second(
 )
     requires places { from + count ≤ length second.old.items }
     requires children { HasChildren second.old.items (length third.old.items) }
-    ensures { IsRaisedSecond (longer_of routes.now number) from count second.old.items third.old.items second.new.items third.new.items }
+    ensures { IsRaisedSecond (longer_of ip4 routes.now number) from count second.old.items third.old.items second.new.items third.new.items }
 {
     for place in from..from + count {
         match second[place] {
@@ -432,7 +441,7 @@ fn raise_third(
     count: usize,
 )
     requires { from + count ≤ length third.old.items }
-    ensures { IsRaised (longer_of routes.now number) from count third.old.items third.new.items }
+    ensures { IsRaised (longer_of ip4 routes.now number) from count third.old.items third.new.items }
 {
     for place in from..from + count {
         third[place] = longer_of(routes, number, third[place]);

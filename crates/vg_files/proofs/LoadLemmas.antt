@@ -1,4 +1,4 @@
--- Files that couldn't be loaded.
+-- For `load_files` and `load_checked`: files that couldn't be loaded.
 use Rattle.std.proofs.Common.{◌≡◌, ℕ, ◌≤◌, List, take, refl, sym, ap, subst, ◌∙◌, inl, inr}
 use Rattle.std.specs.Prelude.{Option, Some, None, IsSome, IsSomeAnd}
 use Rattle.vg_outside.specs.Files.{Files, file, FirstBytes, FailedLoad, IsAbsent}

@@ -1,4 +1,4 @@
--- What a text's script makes.
+-- For `read_script` and `read_files`: what a text's script makes.
 use Rattle.std.proofs.Common.{◌≡◌, ◌⊎◌, ℕ, List, sym, ap, subst, ◌∙◌, inl, inr}
 use Rattle.std.specs.Prelude.{Result, Ok, Err, IfOk, IfErr}
 use Rattle.vg_model.specs.Graph.{Graph}

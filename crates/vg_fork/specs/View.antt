@@ -4,9 +4,9 @@ use Rattle.vg_graph.specs.View.{IsKept}
 use Rattle.vg_fork.specs.Forked.{Forked, forked}
 use Rattle.vg_fork.specs.declared.forks.Fork.TheInside.{Inside}
 
--- the graph with the routes of the trie, under the generation
+-- the graph with the routes of the trie and of the spans, under the generation
 abbrev pub view_of : Inside → Forked
-view_of f = forked f.graph (arc_value f.trie) f.generation
+view_of f = forked f.graph (arc_value f.trie) (arc_value f.spans) f.generation
 
 -- the graph is valid without routes
 abbrev pub IsFork : Inside → Type 0

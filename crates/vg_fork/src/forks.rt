@@ -1,24 +1,27 @@
 //! Forks.
 ghost use Rattle.std.specs.Prelude.{◌≡◌, ◌<◌, Some, IfOk, IfSome, length, slice_get};
+ghost use Rattle.std.specs.Option.{option_copied};
 ghost use Rattle.vg_model.specs.Graph.{kind_at, slots, arc as arc_of};
-ghost use Rattle.vg_model.specs.Route.{best_route};
+ghost use Rattle.vg_model.specs.Route.{best_route, best_route6};
 ghost use Rattle.vg_graph.specs.View.{IsKept};
 ghost use Rattle.vg_fork.specs.Forked.{forked, IsForked};
 
 use std::alloc::Global;
 use std::marker::Model;
 use std::sync::Arc;
-use vg_fib::{Fib, Mtrie};
+use vg_fib::{Fib, Fib6, Mtrie, Spans6};
 use vg_graph::Graph;
 use vg_model::{Adjacency, Interface, Kind, Memory, RouteTo};
 
-/// One generation of the whole graph: its nodes, interfaces and adjacencies by number, and its routes in a trie.
+/// One generation of the whole graph: its nodes, interfaces and adjacencies by number, its IPv4 routes in a trie, and its IPv6
+/// routes in spans.
 ///
-/// Forks of one generation can share a trie ([`Fork::shared`]), which is not changed while more than one fork has it.
+/// Forks of one generation can share trie and spans ([`Fork::shared`]), which are not changed while more than one fork has them.
 #[derive(Drop)]
 pub struct Fork {
     graph: Graph,
     trie: Arc<Mtrie, Global>,
+    spans: Arc<Spans6, Global>,
     generation: u32,
 }
 
@@ -35,19 +38,27 @@ impl Model for Fork {
 }
 
 impl Fork {
-    /// The fork of this graph with the routes of this table, under this generation.
+    /// The fork of this graph with the routes of these tables, under this generation.
     ///
     /// # Errors
     ///
     /// [`Memory`] where memory runs out.
-    pub fn of(alloc: Global, graph: &Graph, fib: &Fib, generation: u32) -> Result<Fork, Memory>
-        ensures { IfOk result (λ fork. fork ≡ forked graph.now fib.now generation) }
+    pub fn of(
+        alloc: Global,
+        graph: &Graph,
+        fib: &Fib,
+        fib6: &Fib6,
+        generation: u32,
+    ) -> Result<Fork, Memory>
+        ensures { IfOk result (λ fork. fork ≡ forked graph.now fib.now fib6.now generation) }
     {
-        Fork::over(alloc, graph, Mtrie::build(alloc, fib)?, generation)
+        let trie = Mtrie::build(alloc, fib)?;
+        let spans = Spans6::build(alloc, fib6)?;
+        Fork::over(alloc, graph, trie, spans, generation)
     }
 
     /// The same as [`Fork::of`]. Where no other fork shares this fork's trie, that is brought up to date in place; else it stays as
-    /// it is, and a new one is built. The graph is copied anew.
+    /// it is, and a new one is built. So it is with the spans. The graph is copied anew.
     ///
     /// # Errors
     ///
@@ -57,19 +68,24 @@ impl Fork {
         alloc: Global,
         graph: &Graph,
         fib: &Fib,
+        fib6: &Fib6,
         generation: u32,
     ) -> Result<Fork, Memory>
-        ensures { IfOk result (λ fork. fork ≡ forked graph.now fib.now generation) }
+        ensures { IfOk result (λ fork. fork ≡ forked graph.now fib.now fib6.now generation) }
     {
-        let Fork { trie, .. } = self;
+        let Fork { trie, spans, .. } = self;
         let trie = match Arc::try_unwrap(trie) {
             Ok(trie) => trie.renewed(alloc, fib)?,
             Err(_) => Mtrie::build(alloc, fib)?,
         };
-        Fork::over(alloc, graph, trie, generation)
+        let spans = match Arc::try_unwrap(spans) {
+            Ok(spans) => spans.renewed(fib6)?,
+            Err(_) => Spans6::build(alloc, fib6)?,
+        };
+        Fork::over(alloc, graph, trie, spans, generation)
     }
 
-    /// An equal fork, for another worker: it shares the trie.
+    /// An equal fork, for another worker: it shares trie and spans.
     ///
     /// # Errors
     ///
@@ -78,22 +94,32 @@ impl Fork {
         ensures { IfOk result (λ fork. fork ≡ self.now) }
     {
         let trie = Arc::try_clone(&self.trie)?;
+        let spans = Arc::try_clone(&self.spans)?;
         Ok(Fork {
             graph: self.graph.copy(alloc)?,
             trie,
+            spans,
             generation: self.generation,
         })
     }
 
-    // The fork of this graph with the routes of this trie.
-    fn over(alloc: Global, graph: &Graph, trie: Mtrie, generation: u32) -> Result<Fork, Memory>
-        ensures { IfOk result (λ fork. fork ≡ forked graph.now trie generation) }
+    // The fork of this graph with the routes of this trie and of these spans.
+    fn over(
+        alloc: Global,
+        graph: &Graph,
+        trie: Mtrie,
+        spans: Spans6,
+        generation: u32,
+    ) -> Result<Fork, Memory>
+        ensures { IfOk result (λ fork. fork ≡ forked graph.now trie spans generation) }
     {
         know_kept(graph);
         let trie = Arc::new(alloc, trie)?;
+        let spans = Arc::new(alloc, spans)?;
         Ok(Fork {
             graph: graph.copy(alloc)?,
             trie,
+            spans,
             generation,
         })
     }
@@ -165,12 +191,34 @@ impl Fork {
         self.graph.adjacency_at(n)
     }
 
-    /// The target of the longest prefix that covers an address, which is in the host's order; `None` exactly where no
+    /// The target of the longest IPv4 prefix that covers an address, which is in the host's order; `None` exactly where no
     /// prefix covers it.
+    pub fn target(&self, address: u32) -> Option<&RouteTo>
+        ensures { option_copied result ≡ best_route self.now.graph.routes address }
+    {
+        self.trie.target(address)
+    }
+
+    /// The same as [`Fork::target`], as a value.
     pub fn find(&self, address: u32) -> Option<RouteTo>
         ensures { result ≡ best_route self.now.graph.routes address }
     {
         self.trie.find(address)
+    }
+
+    /// The target of the longest IPv6 prefix that covers an address, which is in the host's order; `None` exactly where no
+    /// prefix covers it.
+    pub fn target6(&self, address: u128) -> Option<&RouteTo>
+        ensures { option_copied result ≡ best_route6 self.now.graph.routes6 address }
+    {
+        self.spans.target(address)
+    }
+
+    /// The same as [`Fork::target6`], as a value.
+    pub fn find6(&self, address: u128) -> Option<RouteTo>
+        ensures { result ≡ best_route6 self.now.graph.routes6 address }
+    {
+        self.spans.find(address)
     }
 }
 

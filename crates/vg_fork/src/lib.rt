@@ -1,7 +1,8 @@
-//! A worker's own graph: one generation of the whole graph, by numbers, with its routes in a trie.
+//! A worker's own graph: one generation of the whole graph, by numbers, with its IPv4 routes in a trie and its IPv6 routes in spans.
 //!
-//! A [`Fork`] is made once for each generation, and all memory is taken then. Its readers look up a place of an array, and
-//! [`Fork::find`] at most three; none of them takes memory or a lock.
+//! A [`Fork`] is made once for each generation, and all memory is taken then. Its readers look up a place of an array,
+//! [`Fork::target`] at most three, and [`Fork::target6`] some fifty; none of them takes memory or a lock. They lend the target, so that
+//! one of its adjacencies can be picked where the list lies.
 #![tactic(auto)]
 
 pub mod forks;

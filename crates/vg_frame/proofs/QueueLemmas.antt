@@ -1,4 +1,4 @@
--- What full frames, with the newest indexes behind them, make of the list of indexes.
+-- For `Queue::{is_empty, push, pop}`: what full frames, with the newest indexes behind them, make of the list of indexes.
 use Rattle.std.proofs.Common.{◌≡◌, ℕ, suc, ◌*◌, ◌<◌, ◌≤◌, List, [], ◌∷◌, ◌++◌, length, get_or, take, drop, remove, refl, sym, ap, ◌∙◌, arith, append_assoc, length-append}
 use Rattle.std.specs.List.{All, flat_map}
 use Rattle.std.proofs.Math.Seq.{take-append_seam, drop-append_seam}

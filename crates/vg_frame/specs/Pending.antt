@@ -1,10 +1,7 @@
 -- The buffer indexes that wait for nodes: one list for each node, the oldest index first.
 use Rattle.std.specs.Prelude.{◌≡◌, ℕ, ◌<◌, List, [], length, take, drop, slice_index_or, slice_set}
 use Rattle.std.specs.List.{sum_by}
-
--- the most indexes of a frame
-abbrev pub frame_size : ℕ
-frame_size = 256
+pub use Rattle.vg_model.specs.Packet.{frame_size}
 
 -- the most indexes that wait in all
 abbrev pub most_pending : ℕ

@@ -1,9 +1,9 @@
--- What a worker's memory has under each index: the contents of a buffer, or nothing.
+-- What a worker's memory has under each index: a packet in its chain of buffers, or nothing.
 use Rattle.std.specs.Prelude.{◌≡◌, ◌≢◌, ℕ, List, Option, None, IsSome, is_some, slice_index_or}
 use Rattle.std.specs.List.{count_by}
 use Rattle.vg_pool.specs.Contents.{Contents}
 
--- the most buffers
+-- the most packets
 abbrev pub most_placed : ℕ
 most_placed = 2304
 
@@ -11,11 +11,11 @@ most_placed = 2304
 abbrev pub buffer_at : List (Option Contents) → ℕ → Option Contents
 buffer_at placed index = slice_index_or placed index None
 
--- the index has a buffer
+-- the index has a packet
 abbrev pub IsLive : List (Option Contents) → ℕ → Type 0
 IsLive placed index = IsSome (buffer_at placed index)
 
--- how many indexes have a buffer
+-- how many indexes have a packet
 abbrev pub count : List (Option Contents) → ℕ
 count placed = count_by is_some placed
 

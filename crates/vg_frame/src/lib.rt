@@ -1,6 +1,6 @@
-//! Frames of buffer indexes, and the buffers that one worker has under way.
+//! Frames of buffer indexes, and the packets that one worker has under way.
 //!
-//! A worker's buffers stand in its [`BufferMemory`], each under an index. Between two nodes an index waits in the [`FrameStore`],
+//! A worker's packets stand in its [`BufferMemory`], each in its chain of buffers and under an index. Between two nodes an index waits in the [`FrameStore`],
 //! behind those that wait for the same node. They are dispatched a [`Frame`] at a time: at most 256 indexes for one node, oldest
 //! first, as the frames of VLIB.
 //!

@@ -1,4 +1,4 @@
-//! The buffers that a worker has under way.
+//! The packets that a worker has under way.
 ghost use Rattle.std.specs.Prelude.{◌≡◌, ◌+◌, ◌<◌, None, Some, IfOk, [], length};
 ghost use Rattle.std.specs.Borrow.{sem};
 ghost use Rattle.vg_frame.specs.Placed.{buffer_at, count, Changes, IsLive, most_placed};
@@ -11,9 +11,9 @@ use vg_model::Memory;
 use vg_model::limits::MOST_UNDER_WAY;
 use vg_pool::Buffer;
 
-/// The buffers that a worker has under way, at most [`MOST_UNDER_WAY`], each under an index.
+/// The packets that a worker has under way, each in its chain of buffers: at most [`MOST_UNDER_WAY`], each under an index.
 ///
-/// A buffer keeps its index until it is lifted, and only then another one may get it.
+/// A packet, told of here as the [`Buffer`] that it lies in, keeps its index until it is lifted, and only then another one may get it.
 #[derive(Drop)]
 pub struct BufferMemory {
     buffers: Slab<Buffer>,
@@ -33,7 +33,7 @@ impl Model for BufferMemory {
 }
 
 impl BufferMemory {
-    /// A memory with no buffer, and room for [`MOST_UNDER_WAY`].
+    /// A memory with no packet, and room for [`MOST_UNDER_WAY`].
     ///
     /// # Errors
     ///

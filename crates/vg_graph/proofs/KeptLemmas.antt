@@ -8,11 +8,9 @@ use Rattle.vg_model.specs.declared.kinds.Interface.{Interface}
 use Rattle.vg_model.specs.declared.kinds.Adjacency.{Adjacency}
 use Rattle.vg_model.specs.declared.kinds.Kind.{Kind}
 use Rattle.vg_model.specs.declared.kinds.Kind.TheVariants as kinds
-use Rattle.vg_model.specs.declared.routes.RouteTo.{RouteTo}
-use Rattle.vg_model.specs.declared.routes.Prefix.{Prefix}
-use Rattle.vg_model.specs.Graph.{Graph, Node, arc, kind_at, slots, error_drop}
+use Rattle.vg_model.specs.Graph.{Graph, Node, arc, kind_at, slots, error_drop, is_source}
 use Rattle.vg_model.specs.Valid.{Walk, HasArc, IsTarget, IsMac}
-use Rattle.vg_model.specs.Edit.{leads, is_source, with_arc, most_nodes, most_interfaces, most_adjacencies, placed, place_of, node_named, interface_named, adjacency_named}
+use Rattle.vg_model.specs.Edit.{leads, with_arc, most_nodes, most_interfaces, most_adjacencies, placed, place_of, node_named, interface_named, adjacency_named}
 use Rattle.vg_model.proofs.Walks.{AddedArc, with_arc_acyclic, short_acyclic, acyclic_short}
 use Rattle.vg_model.proofs.Arcs.{arc_set, arc_set_short}
 use Rattle.vg_model.proofs.Journeys.{map_some, then_some}
@@ -27,7 +25,7 @@ use Rattle.vg_graph.proofs.ListLemmas.{append_read, append_split, all_weaken, al
 use Rattle.vg_graph.proofs.SearchLemmas.{target_within}
 
 -- no routes, so none leads beyond the adjacencies
-no_routes_within : (P : Prefix × RouteTo → Type 0) (routes : List (Prefix × RouteTo)) → routes ≡ [] → AllByRecursion P routes
+no_routes_within : {X : Type 0} (P : X → Type 0) (routes : List X) → routes ≡ [] → AllByRecursion P routes
 no_routes_within P routes e = subst (AllByRecursion P) (sym e) tt
 
 -- a graph with an interface put
@@ -46,15 +44,18 @@ interface_put g interface after kept mac put =
         interfaces = omega (arith, more, valid.interfaces);
         adjacencies = all_weaken (λ (a : Adjacency). a.interface < length g.interfaces) (λ a. a.interface < length after) (λ a h. omega (arith, more, h)) g.adjacencies valid.adjacencies;
         routes = valid.routes;
+        routes6 = valid.routes6;
         node_names = valid.node_names;
         interface_names = placed_distinct (λ (i : Interface). i.name) most_interfaces interface g.interfaces after put valid.interface_names;
         adjacency_names = valid.adjacency_names;
         one_route = valid.one_route;
+        one_route6 = valid.one_route6;
         interface_macs = placed_all (λ (i : Interface). IsMac i.mac) most_interfaces _ interface g.interfaces after put valid.interface_macs mac;
         adjacency_macs = valid.adjacency_macs;
         acyclic = valid.acyclic;
       };
       no_routes = kept.no_routes;
+      no_routes6 = kept.no_routes6;
       few_nodes = kept.few_nodes;
       few_interfaces = placed_few most_interfaces _ interface g.interfaces after put kept.few_interfaces;
       few_adjacencies = kept.few_adjacencies;
@@ -75,15 +76,18 @@ adjacency_put g adjacency after kept mac interface put =
         interfaces = valid.interfaces;
         adjacencies = placed_all (λ (a : Adjacency). a.interface < length g.interfaces) most_adjacencies _ adjacency g.adjacencies after put valid.adjacencies interface;
         routes = no_routes_within _ g.routes kept.no_routes;
+        routes6 = no_routes_within _ g.routes6 kept.no_routes6;
         node_names = valid.node_names;
         interface_names = valid.interface_names;
         adjacency_names = placed_distinct (λ (a : Adjacency). a.name) most_adjacencies adjacency g.adjacencies after put valid.adjacency_names;
         one_route = valid.one_route;
+        one_route6 = valid.one_route6;
         interface_macs = valid.interface_macs;
         adjacency_macs = placed_all (λ (a : Adjacency). IsMac a.mac) most_adjacencies _ adjacency g.adjacencies after put valid.adjacency_macs mac;
         acyclic = valid.acyclic;
       };
       no_routes = kept.no_routes;
+      no_routes6 = kept.no_routes6;
       few_nodes = kept.few_nodes;
       few_interfaces = kept.few_interfaces;
       few_adjacencies = placed_few most_adjacencies _ adjacency g.adjacencies after put kept.few_adjacencies;
@@ -196,15 +200,18 @@ module _ (g : Graph) (node : Node) (kept : IsKept g) (arcs : node.arcs ≡ repli
           interfaces = valid.interfaces;
           adjacencies = valid.adjacencies;
           routes = valid.routes;
+          routes6 = valid.routes6;
           node_names = distinct_append (λ (n : Node). n.name) node.name g.nodes node refl new valid.node_names;
           interface_names = valid.interface_names;
           adjacency_names = valid.adjacency_names;
           one_route = valid.one_route;
+          one_route6 = valid.one_route6;
           interface_macs = valid.interface_macs;
           adjacency_macs = valid.adjacency_macs;
           acyclic = short;
         };
         no_routes = kept.no_routes;
+        no_routes6 = kept.no_routes6;
         few_nodes = omega (arith, longer, few);
         few_interfaces = kept.few_interfaces;
         few_adjacencies = kept.few_adjacencies;
@@ -250,15 +257,18 @@ module _ (g : Graph) (n s m : ℕ) (node : Node) (here : slice_get g.nodes n ≡
           interfaces = valid.interfaces;
           adjacencies = valid.adjacencies;
           routes = valid.routes;
+          routes6 = valid.routes6;
           node_names = subst (IsDistinct bytes_eq) (sym (map_set (λ (x : Node). x.name) g.nodes n node (record node { arcs = slice_set node.arcs s m }) here refl)) valid.node_names;
           interface_names = valid.interface_names;
           adjacency_names = valid.adjacency_names;
           one_route = valid.one_route;
+          one_route6 = valid.one_route6;
           interface_macs = valid.interface_macs;
           adjacency_macs = valid.adjacency_macs;
           acyclic = arc_set_short g n s m node here valid (target_within g m target) test;
         };
         no_routes = kept.no_routes;
+        no_routes6 = kept.no_routes6;
         few_nodes = let same : length (arc_set g n node s m).nodes ≡ length g.nodes = length-set g.nodes n _ in omega (arith, same, kept.few_nodes);
         few_interfaces = kept.few_interfaces;
         few_adjacencies = kept.few_adjacencies;
@@ -317,6 +327,14 @@ may_be_target kinds.InterfaceOutput e = tt
 may_be_target kinds.InterfaceTx e = tt
 may_be_target kinds.ErrorDrop e = tt
 may_be_target kinds.Pass e = tt
+may_be_target kinds.EthernetDual e = tt
+may_be_target kinds.Ip6Input e = tt
+may_be_target kinds.Ip6Lookup e = tt
+may_be_target kinds.Ip6Rewrite e = tt
+may_be_target (kinds.Dot1qMatch id) e = tt
+may_be_target (kinds.Dot1qPush id) e = tt
+may_be_target (kinds.Dot1qRewrite id) e = tt
+may_be_target (kinds.CrossConnect interface) e = tt
 
 -- an option that is no value
 pub is_none : (o : Option ℕ) → is_some o ≡ false → o ≡ None

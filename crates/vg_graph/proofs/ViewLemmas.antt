@@ -15,7 +15,7 @@ use Rattle.vg_graph.specs.View.{node_of, IsKept}
 
 -- a graph without routes
 abbrev pub unrouted : List model.Node → List Interface → List Adjacency → model.Graph
-unrouted nodes interfaces adjacencies = record { nodes = nodes; interfaces = interfaces; adjacencies = adjacencies; routes = [] }
+unrouted nodes interfaces adjacencies = record { nodes = nodes; interfaces = interfaces; adjacencies = adjacencies; routes = []; routes6 = [] }
 
 -- equal lists make equal graphs
 pub unrouted_eq : (nodes nodes' : List model.Node) (interfaces interfaces' : List Interface) (adjacencies adjacencies' : List Adjacency)
@@ -32,6 +32,7 @@ pub start_kept : IsKept start_graph
 start_kept = record {
   valid = start_valid;
   no_routes = refl;
+  no_routes6 = refl;
   few_nodes = lit≤ tt;
   few_interfaces = lit≤ tt;
   few_adjacencies = lit≤ tt;

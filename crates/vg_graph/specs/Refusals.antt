@@ -13,6 +13,8 @@ use Rattle.vg_graph.specs.declared.errors.GraphError.TheVariants as errors
 abbrev pub IsGraphEdit : Edit → Type 0
 IsGraphEdit (edits.Route prefix to) = ⊥
 IsGraphEdit (edits.Unroute prefix) = ⊥
+IsGraphEdit (edits.Route6 prefix to) = ⊥
+IsGraphEdit (edits.Unroute6 prefix) = ⊥
 IsGraphEdit edit = Unit {0}
 
 -- the cause that each error stands for; want of memory has none

@@ -12,12 +12,13 @@ node_of n = record { name = n.name; kind = n.kind; arcs = n.arcs.items }
 
 -- the whole graph of these fields
 abbrev pub whole : Inside → model.Graph
-whole g = record { nodes = map node_of g.nodes.items; interfaces = g.interfaces.items; adjacencies = g.adjacencies.items; routes = [] }
+whole g = record { nodes = map node_of g.nodes.items; interfaces = g.interfaces.items; adjacencies = g.adjacencies.items; routes = []; routes6 = [] }
 
 -- what holds of every graph: it is valid, has no routes, and keeps the limits
 pub record IsKept (g : model.Graph) : Type 0 where
   pub valid : IsValid g
   pub no_routes : g.routes ≡ []
+  pub no_routes6 : g.routes6 ≡ []
   pub few_nodes : length g.nodes ≤ most_nodes
   pub few_interfaces : length g.interfaces ≤ most_interfaces
   pub few_adjacencies : length g.adjacencies ≤ most_adjacencies

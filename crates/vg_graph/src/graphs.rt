@@ -9,7 +9,7 @@ ghost use Rattle.vg_graph.specs.Refusals.{IsGraphEdit, IsRefusedBy, Answers, pla
 use crate::addresses::know_mac;
 use crate::errors::GraphError;
 use crate::lists::{append, copy_list, place_named, put};
-use crate::nodes::{Node, is_source};
+use crate::nodes::Node;
 use crate::search::Search;
 use crate::start::{start_interface, start_nodes};
 use std::alloc::Global;
@@ -154,7 +154,7 @@ impl Graph {
             .slot(slot.bytes())
             .ok_or(GraphError::UnknownSlot)?;
         let target = self.node(to).ok_or(GraphError::UnknownNode)?;
-        if is_source(self.kind(target)) {
+        if self.kind(target).is_source() {
             return Err(GraphError::BadTarget);
         }
         if self.leads(target, node) {
@@ -201,7 +201,7 @@ impl Graph {
         put(&mut self.adjacencies, MOST_ADJACENCIES, place, adjacency)
     }
 
-    /// The graph as the edit makes it. After a refusal it is as it was.
+    /// The graph as the edit makes it. After a refusal it is as it was. Edits of routes are none of a graph's own: they go to its tables of routes.
     ///
     /// An edit is refused for its first check that fails:
     /// - `Interface`: `TooMany` where the name is new and 16 interfaces are there.
@@ -252,7 +252,10 @@ impl Graph {
                     }),
                 }
             }
-            Edit::Route { .. } | Edit::Unroute { .. } => unreachable!(),
+            Edit::Route { .. }
+            | Edit::Unroute { .. }
+            | Edit::Route6 { .. }
+            | Edit::Unroute6 { .. } => unreachable!(),
         }
     }
 

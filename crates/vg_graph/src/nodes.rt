@@ -1,7 +1,6 @@
 //! Nodes and their next arcs.
 ghost use Rattle.std.specs.Prelude.{◌≡◌, ◌<◌, length, replicate, slice_set};
 ghost use Rattle.vg_model.specs.Graph.{slots, error_drop};
-ghost use Rattle.vg_model.specs.Edit.{is_source as is_source_kind};
 
 use crate::lists::Entry;
 use arrayvec::ArrayVec;
@@ -14,13 +13,6 @@ pub struct Node {
     pub name: Name,
     pub kind: Kind,
     pub arcs: ArrayVec<u16, 2>,
-}
-
-/// Whether packets come into nodes of this kind by no arc.
-pub fn is_source(kind: Kind) -> bool
-    ensures { result ≡ is_source_kind kind }
-{
-    matches!(kind, Kind::PgInput | Kind::HandoffDequeue)
 }
 
 impl Entry for Node {

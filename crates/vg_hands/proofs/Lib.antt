@@ -1,2 +1,3 @@
+pub mod PacketLemmas
 pub mod SendLemmas
 pub mod StepLemmas

@@ -1,5 +1,5 @@
 -- For `push` of a ring as a handoff, clause `steps`: a push makes one step, or two.
-use Rattle.std.proofs.Common.{List, [], ◌∷◌, length}
+use Rattle.std.proofs.Common.{[], ◌∷◌, length}
 use Rattle.std.specs.Prelude.{Result, Ok, Err, OnErr, OnOk}
 use Rattle.vg_steps.specs.Trails.{found}
 use Rattle.vg_ring.specs.declared.ends.Full.{Full}

@@ -1,10 +1,11 @@
 //! Frames that are handed over.
 ghost use Rattle.std.specs.Prelude.{◌≡◌, ◌≤◌, length, sum_by};
+ghost use Rattle.vg_model.specs.Valid.{extent};
 ghost use Rattle.vg_pool.specs.Contents.{Contents};
 ghost use Rattle.vg_journeys.specs.Accounts.{HandoffFrame};
-ghost use Rattle.vg_hands.specs.Handed.{IsHandFrame};
+ghost use Rattle.vg_hands.specs.Handed.{MayBeHanded, IsHandFrame};
 
-use crate::packets::HandPackets;
+use crate::packets::{HandPackets, know_chains};
 use std::marker::Model;
 
 /// Packets that a handoff node of one worker hands to another. Each has one to three legs, of which the last is of one generation.
@@ -29,9 +30,11 @@ impl Model for HandFrame {
 impl HandFrame {
     /// The packets that this node hands over, under this generation. It touches the block of each.
     pub fn new(node: u16, generation: u32, packets: HandPackets) -> HandFrame
-        requires { IsHandFrame (record { node = node; generation = generation; packets = packets }) }
-        ensures { result ≡ record { node = node; generation = generation; packets = packets } }
+        requires { MayBeHanded (record { node = node; generation = generation; packets = packets }) }
+        ensures frame { result ≡ record { node = node; generation = generation; packets = packets } }
+        ensures kept { IsHandFrame result }
     {
+        know_chains(&packets);
         HandFrame {
             node,
             generation,
@@ -62,9 +65,9 @@ impl HandFrame {
         self.packets.len()
     }
 
-    /// How many bytes its packets have.
+    /// How many bytes its packets and their rooms have together.
     pub fn count_bytes(&self) -> usize
-        ensures { result ≡ sum_by (λ (c : Contents). length c.packet.bytes) self.now.packets }
+        ensures { result ≡ sum_by (λ (c : Contents). extent c.packet) self.now.packets }
     {
         self.packets.count_bytes()
     }

@@ -1,16 +1,15 @@
 //! Lists of packets that are handed over.
 ghost use Rattle.std.specs.Prelude.{◌≡◌, ◌<◌, ◌≤◌, [], ◌∷◌, ◌++◌, length, sum_by, MatchOption};
+ghost use Rattle.vg_model.specs.Valid.{extent};
 ghost use Rattle.vg_pool.specs.Contents.{Contents};
-ghost use Rattle.vg_hands.specs.Handed.{most_handed};
+ghost use Rattle.std.specs.List.{AllByRecursion};
+ghost use Rattle.vg_hands.specs.Handed.{most_handed, IsChained};
 
 use std::marker::Model;
 use std::mem;
-use vg_pool::{Buffer, BufferStack};
+use vg_pool::{Buffer, BufferStack, know_contents};
 
-/// The most packets of a frame that is handed over.
-pub const MOST_HANDED: usize = 256;
-
-/// At most [`MOST_HANDED`] buffers, oldest first.
+/// The buffers of a frame that is handed over, oldest first: at most [`FRAME_SIZE`](vg_model::limits::FRAME_SIZE).
 ///
 /// It is six words, whatever the number of its buffers: they are stacked through their blocks. Both counts are kept, so to ask for
 /// them touches no block.
@@ -21,7 +20,7 @@ pub struct HandPackets {
     // Those behind them, newest first.
     back: BufferStack,
     count: usize,
-    // How many bytes the packets have.
+    // How many bytes the packets and their rooms have together.
     bytes: usize,
 }
 
@@ -77,9 +76,9 @@ impl HandPackets {
         self.count
     }
 
-    /// How many bytes its packets have.
+    /// How many bytes its packets and their rooms have together.
     pub fn count_bytes(&self) -> usize
-        ensures { result ≡ sum_by (λ (c : Contents). length c.packet.bytes) self.now }
+        ensures { result ≡ sum_by (λ (c : Contents). extent c.packet) self.now }
     {
         self.bytes
     }
@@ -89,8 +88,9 @@ impl HandPackets {
         requires { length self.old < most_handed }
         ensures { self.new ≡ self.old ++ buffer ∷ [] }
     {
+        know_contents(&buffer);
         self.count += 1;
-        self.bytes += buffer.bytes().len();
+        self.bytes += (buffer.len() + buffer.room()) as usize;
         self.back.push(buffer);
     }
 
@@ -119,6 +119,13 @@ impl HandPackets {
             back: self.back,
         }
     }
+}
+
+// Each of the packets lies in a chain.
+pub(crate) fn know_chains(packets: &HandPackets)
+    ensures { AllByRecursion IsChained packets.now }
+{
+    let _count = packets.count;
 }
 
 impl Unpacked {

@@ -1,5 +1,5 @@
 -- What a worker does in turns, one behind the other.
-use Rattle.std.proofs.Common.{◌≡◌, ℕ, ◌+◌, ◌≤◌, ◌&&◌, Bool, true, false, cond, List, [], ◌∷◌, ◌++◌, length, refl, sym, ap, ◌∙◌, arith, append_assoc, append-nil, length-append}
+use Rattle.std.proofs.Common.{◌≡◌, ℕ, ◌+◌, ◌≤◌, ◌&&◌, Bool, true, false, cond, List, [], ◌∷◌, ◌++◌, length, refl, sym, ap, ◌∙◌, arith, append_assoc, append-nil}
 use Rattle.std.specs.Prelude.{Option, Some, None, ◌==◌, if◌then◌else◌}
 use Rattle.std.specs.List.{sum_by, count_by, AllByRecursion, filter_map, flat_map}
 use Rattle.std.proofs.lemmas.List.Sums.{sum_by-cons, sum_by-append}
@@ -12,7 +12,7 @@ use Rattle.vg_counters.specs.Notes.{nodes_of}
 use Rattle.vg_journeys.specs.Chains.{count_some}
 use Rattle.vg_journeys.specs.Trips.{is_of, Run, Trip, number_of, legs_before, onward, logged, sent_by_trip, trip_visits, noted_of, IsTrip}
 use Rattle.vg_journeys.specs.Treks.{IsRefusal}
-use Rattle.vg_journeys.specs.Accounts.{Account, frames_with, is_drawn, Adds}
+use Rattle.vg_journeys.specs.Accounts.{Account, frames_with, drawn_pieces, freed_pieces, Adds}
 
 pub all_append : {X : Type 0} (P : X → Type 0) (xs ys : List X) → AllByRecursion P xs → AllByRecursion P ys → AllByRecursion P (xs ++ ys)
 all_append P [] ys one two = two
@@ -112,6 +112,6 @@ adds_more run a b c trips more one two =
           ∙ ap (λ ns. ns ++ flat_map (noted_of number leg) more) begin
           ∙ append_assoc (nodes_of number leg a.trace) (flat_map (noted_of number leg) trips) (flat_map (noted_of number leg) more)
           ∙ ap (λ ns. nodes_of number leg a.trace ++ ns) (sym (flat_map-append (noted_of number leg) trips more));
-      allocated = (let h = one.allocated in let k = two.allocated in omega (arith, h, k, sum_by-append (λ t. is_drawn t.arrival) trips more));
-      freed = (let h = one.freed in let k = two.freed in let e = ap length split in omega (arith, h, k, e, length-append (filter_map logged trips) (filter_map logged more)));
+      allocated = (let h = one.allocated in let k = two.allocated in omega (arith, h, k, sum_by-append (λ t. drawn_pieces t.arrival) trips more));
+      freed = (let h = one.freed in let k = two.freed in omega (arith, h, k, sum_by-append freed_pieces trips more));
     }

@@ -1,4 +1,4 @@
--- Journeys stay inside the graphs.
+-- For `laws::trips_are_journeys`, clause `inside`: journeys stay inside the graphs.
 use Rattle.std.proofs.Common.{◌≡◌, ℕ, ◌+◌, ◌*◌, ◌<◌, ◌≤◌, List, [], ◌∷◌, length, sym, ap, subst, arith, length-append}
 use Rattle.std.specs.Prelude.{Some}
 use Rattle.std.specs.List.{AllByRecursion, flat_map}
@@ -30,11 +30,11 @@ ends_inside run last grows number bytes (t ∷ ts) is all =
     subst (λ o. IsEndIn last (end_of o)) (sym end.outcome) (end_grows end.is.graph last end.t.way.outcome (grows end.t.generation end.is.graph end.is.is_graph) end.is.inside)
 
 short_inside : (run : Run) (number : ℕ) (bytes : List ℕ) (trek : List Trip) → IsTrek (Some (Drawn number bytes)) trek → AllByRecursion (IsTrip run) trek
-    → IsShort (course_of trek).outcome (course_of trek).packet.bytes
+    → IsShort (course_of trek).outcome (course_of trek).packet
 short_inside run number bytes [] is all = absurd is
 short_inside run number bytes (t ∷ ts) is all =
     let end = end_of_trek (IsTrip run) t ts is.1 all in
-    subst (λ o. IsShort o (course_of (t ∷ ts)).packet.bytes) (sym end.outcome) (subst (λ p. IsShort end.t.way.outcome p.bytes) (sym end.packet) end.is.short)
+    subst (λ o. IsShort o (course_of (t ∷ ts)).packet) (sym end.outcome) (subst (λ p. IsShort end.t.way.outcome p) (sym end.packet) end.is.short)
 
 all_visits : (run : Run) (last : Graph) → AllGrow run last → (ts : List Trip) → AllByRecursion (IsTrip run) ts → AreNodesOf last (flat_map trip_visits ts)
 all_visits run last grows [] all = tt
@@ -68,5 +68,5 @@ journeys_inside run packets treks are all = record {
   nodes = λ last grows. each_journey (IsTrip run) (λ j. AreNodesOf last (trace j))
       (λ number bytes trek is good. subst (AreNodesOf last) (trace_is number bytes trek is) (all_visits run last grows trek good)) 0 packets treks are all;
   few = each_journey (IsTrip run) (λ j. length (trace j) ≤ 4 * (most_nodes + 2)) (few_inside run) 0 packets treks are all;
-  short = each_journey (IsTrip run) (λ j. IsShort j.course.outcome j.course.packet.bytes) (short_inside run) 0 packets treks are all;
+  short = each_journey (IsTrip run) (λ j. IsShort j.course.outcome j.course.packet) (short_inside run) 0 packets treks are all;
 }

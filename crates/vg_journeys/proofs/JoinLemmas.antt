@@ -119,7 +119,7 @@ pub gone_none : (run : Run) (traced worker : ℕ) (count : Arrival → ℕ) → 
 gone_none run traced worker count = sum_none (λ to. sum_by count (arrivals_in to (frames_with to []))) (λ to. refl) (below run.workers)
 
 -- what a queue accepted was taken, or is on its way
-split_queue : (count : Arrival → ℕ) (to : ℕ) (put taken rest : List HandoffFrame) → put ≡ taken ++ rest
+pub split_queue : (count : Arrival → ℕ) (to : ℕ) (put taken rest : List HandoffFrame) → put ≡ taken ++ rest
     → sum_by count (arrivals_in to put) ≡ sum_by count (arrivals_in to taken) + sum_by count (arrivals_in to rest)
 split_queue count to put taken rest is =
     ap (λ frames. sum_by count (arrivals_in to frames)) is ∙ ap (sum_by count) (flat_map-append (frame_arrivals to) taken rest)

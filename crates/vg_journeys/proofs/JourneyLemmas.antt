@@ -10,7 +10,7 @@ use Rattle.vg_model.specs.Count.{trace}
 use Rattle.vg_model.specs.Lawful.{hands, hands_in, StartsAt, IsRefusalLawful}
 use Rattle.vg_counters.specs.Notes.{all_legs}
 use Rattle.vg_journeys.specs.Chains.{count_some, AreChains}
-use Rattle.vg_journeys.specs.Trips.{is_of, Run, legs_before, Trip, onward, logged, sent_by_trip, trip_visits, noted_of, IsTrip}
+use Rattle.vg_journeys.specs.Trips.{is_of, Run, legs_before, Trip, contents_after, onward, logged, sent_by_trip, trip_visits, noted_of, IsTrip}
 use Rattle.vg_journeys.specs.Treks.{journey_of, hand_of, hand_by, IsRefusal, drawn_from, journeys_of}
 use Rattle.vg_journeys.specs.Runs.{AreAllTrips, AreJourneys}
 use Rattle.vg_journeys.proofs.FlowLemmas.{in_chains}
@@ -19,6 +19,7 @@ use Rattle.vg_journeys.proofs.TrekLemmas.{starts_at}
 use Rattle.vg_journeys.proofs.RunLemmas.{sum_filter_map, sum_flat_map, all_first, all_both, each_journey, sums_are, journeys_are, fate_once, sent_of_trek, trace_is, hands_of_trek, IsGood, refusal_of_trek, legs_rise}
 use Rattle.vg_journeys.proofs.InsideLemmas.{journeys_inside}
 use Rattle.vg_journeys.proofs.HandLemmas.{hands_by_trek}
+use Rattle.vg_journeys.proofs.PieceLemmas.{chains_kept, freed_treks}
 use Rattle.vg_journeys.proofs.NoteLemmas.{IsPlaced, placed, one_trip, same_given, noted_none, noted_trek}
 
 -- the theorem
@@ -60,6 +61,8 @@ journeys_of_trips run trips are =
           ∙ sums_are P (λ t. sum_by count (trip_visits t)) (λ j. sum_by count (trace j))
           (λ number bytes trek is all. sym (sum_flat_map count trip_visits trek) ∙ ap (sum_by count) (trace_is number bytes trek is))
           0 run.packets treks found.are good;
+      chains = chains_kept 0 run.packets treks found.are;
+      freed_are = λ count. found.same (λ t. count_some (λ f. count f (contents_after t).pieces) (logged t)) ∙ freed_treks run count run.packets [] run.packets treks 0 refl refl found.are good;
       hands_are = hands_same;
       hands_by = λ count from to. found.same (hand_by count from to)
           ∙ sums_are P (hand_by count from to) (λ j. count j.number * hands_in from to j.course.legs)

@@ -1,5 +1,5 @@
 -- What all workers have kept in the end.
-use Rattle.std.proofs.Common.{◌≡◌, ℕ, zero, suc, ◌+◌, ◌<◌, ◌≤◌, cond, List, [], ◌∷◌, ◌++◌, length, map, get_or, refl, sym, ap, ◌∙◌, arith}
+use Rattle.std.proofs.Common.{◌≡◌, ℕ, zero, suc, ◌+◌, ◌*◌, ◌<◌, ◌≤◌, cond, List, [], ◌∷◌, ◌++◌, length, map, get_or, refl, sym, ap, ◌∙◌, arith}
 use Rattle.std.specs.Prelude.{Option, Some, None, ◌==◌, replicate, slice_index}
 use Rattle.std.specs.List.{sum_by, count_by, AllByRecursion, flat_map}
 use Rattle.std.proofs.lemmas.List.Sums.{sum_by-cons, sum_by-append}
@@ -8,25 +8,27 @@ use Rattle.vg_model.specs.declared.fates.Fate.{Fate}
 use Rattle.vg_model.specs.Edit.{most_nodes, most_interfaces}
 use Rattle.vg_model.specs.Errors.{error_number}
 use Rattle.vg_model.specs.Leg.{Outcome, Sent, Dropped, Handed}
-use Rattle.vg_model.specs.Lawful.{last_worker}
+use Rattle.vg_model.specs.PoolBook.{pieces_of}
 use Rattle.vg_model.specs.Journey as model
 use Rattle.vg_model.specs.Journey.{Journey, end_of}
 use Rattle.vg_model.specs.Count.{trace, is_drop, is_sent_on}
 use Rattle.vg_pool.specs.Contents.{Contents}
+use Rattle.vg_pool.proofs.BlockLemmas.{pieces_bound}
 use Rattle.vg_counters.specs.Tally.{drops_at, count_of_errors}
 use Rattle.vg_counters.specs.Notes.{nothing_noted, count_of_legs, nodes_of, all_legs}
 use Rattle.vg_journeys.specs.Chains.{count_some}
-use Rattle.vg_journeys.specs.Trips.{Run, Drawn, Trip, is_of, contents_after, onward_by, onward, logged, sent_by_trip, trip_visits, noted_of}
+use Rattle.vg_journeys.specs.Trips.{Run, Drawn, pieces_before, Trip, is_of, contents_after, onward_by, onward, logged, sent_by_trip, trip_visits, noted_of}
 use Rattle.vg_journeys.specs.Treks.{drawn_from, choice_of}
-use Rattle.vg_journeys.specs.Accounts.{HandoffFrame, Account, is_drawn, below}
+use Rattle.vg_journeys.specs.Accounts.{HandoffFrame, Account, drawn_pieces, freed_pieces, below}
 use Rattle.vg_journeys.specs.Moments.{StandsFor, trips_of, IsMoment, IsOver}
-use Rattle.vg_journeys.specs.Kept.{AreKept}
+use Rattle.vg_journeys.specs.Kept.{all_pieces, AreKept}
 use Rattle.vg_journeys.proofs.RunLemmas.{sum_filter_map, sum_flat_map}
-use Rattle.vg_journeys.proofs.JoinLemmas.{sum_made, sum_none}
+use Rattle.vg_journeys.proofs.FlowLemmas.{sum_same}
+use Rattle.vg_journeys.proofs.JoinLemmas.{sum_made, sum_none, sum_both}
 use Rattle.vg_journeys.proofs.EndLemmas.{all_trips}
 use Rattle.vg_journeys.proofs.HandLemmas.{over_queue}
 use Rattle.vg_journeys.proofs.JourneyLemmas.{journeys_of_trips}
-use Rattle.vg_journeys.proofs.WorkerLemmas.{length_filter_map, allocated_on, freed_on}
+use Rattle.vg_journeys.proofs.WorkerLemmas.{log_or_onward, allocated_on, freed_on}
 
 -- nothing is counted or noted at first
 zeros : (n i : ℕ) → slice_index (replicate n 0) i ≡ 0
@@ -80,21 +82,32 @@ notes_made run traced at number leg h (w ∷ ws) all few =
     ∙ sym (flat_map-append (noted_of number leg) all.0.trips (trips_of run traced at ws all.1))
 
 -- no packet that goes on was drawn
-pub not_drawn : (c : Contents) (outcome : Outcome) (refused : Option ℕ) → count_some is_drawn (onward_by c outcome refused) ≡ 0
+pub not_drawn : (c : Contents) (outcome : Outcome) (refused : Option ℕ) → count_some drawn_pieces (onward_by c outcome refused) ≡ 0
 not_drawn c (Handed node to) None = refl
 not_drawn c (Handed node to) (Some accepted) = refl
 not_drawn c (Sent interface) refused = refl
 not_drawn c (Dropped node error) refused = refl
 
-drawn_length : (number : ℕ) (packets : List (List ℕ)) → sum_by is_drawn (drawn_from number packets) ≡ length packets
-drawn_length number [] = refl
-drawn_length number (bytes ∷ packets) =
-    let rest = drawn_length (number + 1) packets in
-    omega (arith, rest, sum_by-cons is_drawn (Drawn number bytes) (drawn_from (number + 1) packets))
+-- the packets of the capture take all buffers that were drawn, by either way of counting
+drawn_total : (number : ℕ) (packets : List (List ℕ)) → sum_by drawn_pieces (drawn_from number packets) ≡ all_pieces packets
+drawn_total number [] = refl
+drawn_total number (bytes ∷ packets) =
+    let rest = drawn_total (number + 1) packets in
+    omega (arith, rest, sum_by-cons drawn_pieces (Drawn number bytes) (drawn_from (number + 1) packets), sum_by-cons (λ (bytes : List ℕ). pieces_of (length bytes)) bytes packets)
 
-ones : {Y : Type 0} (ys : List Y) → sum_by (λ y. 1) ys ≡ length ys
-ones [] = refl
-ones (y ∷ ys) = let rest = ones ys in omega (arith, rest, sum_by-cons (λ y. 1) y ys)
+came_total : (number : ℕ) (packets : List (List ℕ)) → sum_by pieces_before (drawn_from number packets) ≡ all_pieces packets
+came_total number [] = refl
+came_total number (bytes ∷ packets) =
+    let rest = came_total (number + 1) packets in
+    omega (arith, rest, sum_by-cons pieces_before (Drawn number bytes) (drawn_from (number + 1) packets), sum_by-cons (λ (bytes : List ℕ). pieces_of (length bytes)) bytes packets)
+
+-- they are no more than five for each packet
+pub pieces_most : (packets : List (List ℕ)) → all_pieces packets ≤ 5 * length packets
+pieces_most [] = omega arith
+pieces_most (bytes ∷ packets) =
+    let rest = pieces_most packets in
+    let one = pieces_bound (length bytes) in
+    omega (arith, rest, one, sum_by-cons (λ (bytes : List ℕ). pieces_of (length bytes)) bytes packets)
 
 -- the theorem
 pub kept_in_the_end : (run : Run) (traced : ℕ) (at : ℕ → Account) (rest : ℕ → ℕ → List HandoffFrame) → IsMoment run traced at rest → 0 < run.workers → IsOver run at rest → AreKept run traced at
@@ -144,16 +157,17 @@ kept_in_the_end run traced at rest moment some over =
       hands = λ from to hf ht count. over_queue run traced at rest moment from to hf ht count ∙ found.hands_by count from to;
       as_many = found.as_many;
       allocated =
-          (let made = sum_made run traced at (λ t. is_drawn t.arrival) (λ w. (at w).allocated) (λ w stand. let e = stand.adds.allocated in omega (arith, e)) ws moment.stand in
-          let flow = all.flow is_drawn in
-          let none : sum_by (λ t. count_some is_drawn (onward t)) trips ≡ 0 = sum_none (λ t. count_some is_drawn (onward t)) (λ t. not_drawn (contents_after t) t.way.outcome t.refused) trips in
-          omega (arith, made, flow, none, drawn_length 0 run.packets));
+          (let made = sum_made run traced at (λ t. drawn_pieces t.arrival) (λ w. (at w).allocated) (λ w stand. let e = stand.adds.allocated in omega (arith, e)) ws moment.stand in
+          let flow = all.flow drawn_pieces in
+          let none : sum_by (λ t. count_some drawn_pieces (onward t)) trips ≡ 0 = sum_none (λ t. count_some drawn_pieces (onward t)) (λ t. not_drawn (contents_after t) t.way.outcome t.refused) trips in
+          omega (arith, made, flow, none, drawn_total 0 run.packets));
       freed =
-          (let made = sum_made run traced at (λ t. count_some (λ f. 1) (logged t)) (λ w. (at w).freed)
-          (λ w stand. let e = stand.adds.freed in omega (arith, e, length_filter_map logged stand.trips)) ws moment.stand in
-          let once = found.fates_are (λ f. 1) in
-          let many = found.as_many in
-          omega (arith, made, once, many, sum_map (λ f. 1) model.fate_of js, ones js));
+          (let made = sum_made run traced at freed_pieces (λ w. (at w).freed) (λ w stand. let e = stand.adds.freed in omega (arith, e)) ws moment.stand in
+          let flow = all.flow pieces_before in
+          let split = sum_both freed_pieces (λ t. count_some pieces_before (onward t)) trips in
+          let each : sum_by (λ (t : Trip). pieces_before t.arrival) trips ≡ sum_by (λ t. freed_pieces t + count_some pieces_before (onward t)) trips =
+          sum_same (λ (t : Trip). pieces_before t.arrival) (λ t. freed_pieces t + count_some pieces_before (onward t)) (λ t. sym (log_or_onward (contents_after t) t.way.outcome t.refused)) trips in
+          omega (arith, made, flow, split, each, came_total 0 run.packets));
       allocated_by = λ w h. allocated_on moment over w h;
-      freed_by = λ w h. freed_on moment (model.fates js) logs w h ∙ sum_map (λ (f : Fate). cond (last_worker f.legs == w) 1 0) model.fate_of js;
+      freed_by = λ w h. freed_on moment js found.freed_are w h;
     }

@@ -8,6 +8,7 @@ pub mod NoteLemmas
 pub mod HandLemmas
 pub mod EndLemmas
 pub mod InsideLemmas
+pub mod PieceLemmas
 pub mod JourneyLemmas
 pub mod WorkerLemmas
 pub mod KeptLemmas
@@ -22,6 +23,7 @@ pub mod OutcomeLemmas
 pub mod WindowLemmas
 pub mod SameEndLemmas
 pub mod BufferLemmas
+pub mod StayLemmas
 pub mod ArrivalLemmas
 pub mod LegInLemmas
 pub mod BalanceLemmas

@@ -1,4 +1,4 @@
--- Entries are told apart by a test.
+-- For `laws::turns_add_trips` and `laws::trips_are_journeys`: arrivals are told apart by a test.
 use Rattle.std.proofs.Common.{◌≡◌, ℕ, Bool, true, false, List, [], ◌∷◌, refl, sym, ap, ◌∙◌}
 use Rattle.std.specs.Prelude.{Option, Some, None, bytes_eq}
 use Rattle.std.specs.Bool.{Decides}
@@ -55,15 +55,23 @@ number_at (n ∷ ns) = n
 pub code : Arrival → List (List ℕ)
 code (Drawn number bytes) = (number ∷ []) ∷ bytes ∷ []
 code (Taken worker node c) =
-    (worker ∷ []) ∷ (node ∷ []) ∷ (c.packet.number ∷ []) ∷ c.packet.bytes ∷ bool_code c.packet.checked ∷ option_code c.packet.adjacency ∷ option_code c.packet.interface
-    ∷ legs_code c.legs ∷ []
+    (worker ∷ []) ∷ (node ∷ []) ∷ (c.packet.number ∷ []) ∷ c.packet.bytes ∷ (c.packet.room ∷ []) ∷ bool_code c.packet.checked ∷ option_code c.packet.adjacency ∷ option_code c.packet.interface
+    ∷ legs_code c.legs ∷ (c.pieces ∷ []) ∷ []
 
 pub decode : List (List ℕ) → Arrival
 decode (number ∷ bytes ∷ []) = Drawn (number_at number) bytes
-decode (worker ∷ node ∷ number ∷ bytes ∷ checked ∷ adjacency ∷ interface ∷ legs ∷ rest) =
+decode (worker ∷ node ∷ number ∷ bytes ∷ room ∷ checked ∷ adjacency ∷ interface ∷ legs ∷ pieces ∷ rest) =
     Taken (number_at worker) (number_at node) (record {
-      packet = record { number = number_at number; bytes = bytes; checked = bool_at checked; adjacency = option_at adjacency; interface = option_at interface };
+      packet = record {
+        number = number_at number;
+        bytes = bytes;
+        room = number_at room;
+        checked = bool_at checked;
+        adjacency = option_at adjacency;
+        interface = option_at interface;
+      };
       legs = legs_at legs;
+      pieces = number_at pieces;
     })
 decode other = Drawn 0 []
 

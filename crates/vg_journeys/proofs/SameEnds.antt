@@ -57,14 +57,14 @@ outcome_back (Dropped node error) = ap (Dropped node) (error_back error)
 outcome_back (Handed node worker) = refl
 
 contents_of : Arrival → Contents
-contents_of (Drawn number bytes) = nothing
+contents_of (Drawn number bytes) = nothing 1
 contents_of (Taken worker node c) = c
 
 ended_code : Ended → List (List ℕ)
 ended_code e = outcome_code e.outcome ∷ code (Taken 0 0 e.contents)
 
 ended_at : List (List ℕ) → Ended
-ended_at [] = record { outcome = Sent 0; contents = nothing }
+ended_at [] = record { outcome = Sent 0; contents = nothing 1 }
 ended_at (outcome ∷ rest) = record { outcome = outcome_at outcome; contents = contents_of (decode rest) }
 
 ended_back : (e : Ended) → ended_at (ended_code e) ≡ e

@@ -9,7 +9,7 @@ use Rattle.vg_model.specs.Graph.{Graph, handoff_dequeue, error_drop}
 use Rattle.vg_model.specs.Edit.{most_nodes}
 use Rattle.vg_journeys.specs.Ends.{IsOutcomeIn, AreNodesOf, IsShort}
 use Rattle.vg_journeys.proofs.AccountLemmas.{all_append}
-use Rattle.vg_journeys.proofs.LegInLemmas.{leg_from_in, first_leg_in, short_bytes, drop_within}
+use Rattle.vg_journeys.proofs.LegInLemmas.{leg_from_in, first_leg_in, short_packet, drop_within}
 use Rattle.vg_model.specs.Valid.{IsValid, IsKindSet}
 use Rattle.vg_model.specs.Leg.{Outcome, Sent, Dropped, Handed, Way}
 use Rattle.vg_pool.specs.Contents.{Contents}
@@ -18,11 +18,11 @@ use Rattle.vg_counters.specs.Notes.{nodes_of}
 use Rattle.vg_journeys.specs.Ended.{Ended, ended_by, drop_visits, counted_visits}
 use Rattle.vg_journeys.specs.Chains.{count_some}
 use Rattle.vg_journeys.specs.LegFacts.{HandsOver}
-use Rattle.vg_journeys.specs.Trips.{Run, Arrival, Drawn, Taken, number_of, legs_before, Trip, contents_after, onward, logged, sent_by_trip, last_visits, trip_visits, noted_of, is_of, IsHandover, IsTrip}
+use Rattle.vg_journeys.specs.Trips.{Run, Arrival, Drawn, Taken, number_of, legs_before, pieces_before, Trip, contents_after, onward, logged, sent_by_trip, last_visits, trip_visits, noted_of, is_of, IsHandover, IsTrip}
 use Rattle.vg_journeys.specs.Treks.{IsRefusal}
-use Rattle.vg_journeys.specs.Accounts.{Account, frames_with, is_drawn, Adds}
+use Rattle.vg_journeys.specs.Accounts.{Account, frames_with, drawn_pieces, freed_pieces, Adds}
 use Rattle.vg_journeys.specs.Counts.{IsCountIn}
-use Rattle.vg_journeys.specs.Turns.{Settled, settled_onward, settled_log, settled_sent, refusal_visits, settled_visits, MayBeRefused, Place, legs_with, way_at, end_at, visits_at, IsSoundArrival, MayArrive, arrival_is_of, arrival_noted, settled_noted, IsTurn}
+use Rattle.vg_journeys.specs.Turns.{Settled, settled_onward, settled_log, settled_sent, settled_pieces, refusal_visits, settled_visits, MayBeRefused, Place, legs_with, way_at, end_at, visits_at, IsSoundArrival, MayArrive, arrival_is_of, arrival_noted, settled_noted, IsTurn}
 use Rattle.vg_journeys.proofs.JoinLemmas.{sum_both, same_or_not}
 use Rattle.vg_journeys.proofs.NoteLemmas.{none_gives, same_given}
 use Rattle.std.proofs.lemmas.Bool.{eq-eqb, ne_eqb}
@@ -48,15 +48,15 @@ handover_is g workers worker legs (Dropped node error) refused over few may = ma
 
 -- and stays inside the graph
 way_in : (run : Run) (place : Place) (e : Arrival) (way : Way) → IsKindSet run.visit → IsValid place.graph → IsSoundArrival e → way_at run place e ≡ Some way
-    → (length way.visits ≤ suc (length place.graph.nodes)) × AreNodesOf place.graph way.visits × IsOutcomeIn place.graph way.outcome × IsShort way.outcome way.packet.bytes
+    → (length way.visits ≤ suc (length place.graph.nodes)) × AreNodesOf place.graph way.visits × IsOutcomeIn place.graph way.outcome × IsShort way.outcome way.packet
 way_in run place (Drawn number bytes) way kinds valid sound is =
     let found = first_leg_in run.visit place.graph run.workers place.worker number bytes way kinds valid sound is in
     (found.0.few, found.0.passes, found.0.inside, found.1)
 way_in run place (Taken worker node c) way kinds valid sound is =
     let found = leg_from_in run.visit place.graph run.workers place.worker (suc (length c.legs)) handoff_dequeue node c.packet way kinds valid sound.0 (dequeue_within place.graph valid) is in
-    let len = found.len in
+    let less = found.no_larger in
     let short = sound.2 in
-    (found.few, found.passes, found.inside, short_bytes way.outcome way.packet.bytes (omega (arith, len, short)))
+    (found.few, found.passes, found.inside, short_packet way.outcome way.packet (omega (arith, less, short)))
   where
     dequeue_within : (g : Graph) → IsValid g → handoff_dequeue < length g.nodes
     dequeue_within g valid = let h = drop_within g valid in omega (arith, h)
@@ -129,8 +129,8 @@ trip_of : (run : Run) (place : Place) (s : Settled) (e : Arrival) → IsKindSet 
     → MayArrive run place e → end_at run place e ≡ Some s.ended → MayBeRefused s.ended.outcome s.refused → (t : Trip) × IsTripAt run place s e t
 trip_of run place s e kinds valid few some is_graph may is be =
     let way : Way = may.way in
-    let end : ended_by (legs_with place e) way ≡ s.ended = same_Some _ _ (sym (ap (option_map (ended_by (legs_with place e))) may.is_way) ∙ is) in
-    let settled : record { ended = ended_by (legs_with place e) way; refused = s.refused } ≡ s = ap (λ ended. record { ended = ended; refused = s.refused }) end in
+    let end : ended_by (legs_with place e) (pieces_before e) way ≡ s.ended = same_Some _ _ (sym (ap (option_map (ended_by (legs_with place e) (pieces_before e))) may.is_way) ∙ is) in
+    let settled : record { ended = ended_by (legs_with place e) (pieces_before e) way; refused = s.refused } ≡ s = ap (λ ended. record { ended = ended; refused = s.refused }) end in
     let leg = leg_is run place e way kinds valid some may.sound may.is_way in (
       trip_at place e way s.refused,
       record {
@@ -340,7 +340,7 @@ pub turn_adds_with : (P : Outcome → Option ℕ → Type 0) (run : Run) (place 
     × ((count : Contents → Outcome → Option ℕ → ℕ) → sum_by (λ t. count (contents_after t) t.way.outcome t.refused) trips ≡ sum_by (λ s. count s.ended.contents s.ended.outcome s.refused) turn.settled)
 turn_adds_with P run place arrivals old new kinds valid small some is_graph turn holds =
     let found = matched (λ (s : Settled). s.ended) (end_at run place) (MayArrive run place) same_ended same_ended_decides
-    (λ e may. (ended_by (legs_with place e) may.way, ap (option_map (ended_by (legs_with place e))) may.is_way)) turn.settled arrivals turn.may turn.same in
+    (λ e may. (ended_by (legs_with place e) (pieces_before e) may.way, ap (option_map (ended_by (legs_with place e) (pieces_before e))) may.is_way)) turn.settled arrivals turn.may turn.same in
     let pairs : List (Settled × Arrival) = found.pairs in
     let firsts = found.firsts in
     let be = all_firsts (λ (s : Settled). MayBeRefused s.ended.outcome s.refused) pairs (subst (AllByRecursion (λ (s : Settled). MayBeRefused s.ended.outcome s.refused)) (sym firsts) turn.may_be) in
@@ -400,10 +400,16 @@ turn_adds_with P run place arrivals old new kinds valid small some is_graph turn
             ∙ ap (λ l. nodes_of number leg old.trace ++ l) (notes_at run place number leg arrivals pairs ts are found.seconds once);
         allocated =
             (let e = turn.allocated in
-            let k = found.seconds is_drawn in
-            let l = sums_at run place (λ t. is_drawn t.arrival) (λ p. is_drawn p.1) (λ p t is. ap is_drawn is.arrival) pairs ts are in
+            let k = found.seconds drawn_pieces in
+            let l = sums_at run place (λ t. drawn_pieces t.arrival) (λ p. drawn_pieces p.1) (λ p t is. ap drawn_pieces is.arrival) pairs ts are in
             omega (arith, e, k, l));
-        freed = (let e = turn.freed in let k = ap length logs in omega (arith, e, k));
+        freed =
+            (let e = turn.freed in
+            let l = sums_at run place freed_pieces (λ p. settled_pieces p.0)
+            (λ p t is. ap (λ (c : Contents). count_some (λ (f : Fate). c.pieces) (logged t)) is.contents ∙ ap (count_some (λ (f : Fate). p.0.ended.contents.pieces)) is.logged_is) pairs ts are in
+            let k = sum_firsts pairs settled_pieces in
+            let f = ap (sum_by settled_pieces) firsts in
+            omega (arith, e, l, k, f));
       },
       each_at run place (λ s. Unit {0}) (λ t. t.generation ≡ place.generation) (λ s e t u is. is.generation) pairs ts anything are,
       each_at run place (λ s. P s.ended.outcome s.refused) (λ t. P t.way.outcome t.refused)

@@ -5,11 +5,12 @@ use Rattle.vg_model.specs.declared.kinds.DropError.{DropError}
 use Rattle.vg_model.specs.declared.fates.Fate.{Fate}
 use Rattle.vg_model.specs.Errors.{error_number}
 use Rattle.vg_model.specs.Count.{is_drop, is_sent_on}
+use Rattle.vg_model.specs.PoolBook.{pieces_of}
 use Rattle.vg_pool.specs.Contents.{Contents}
 use Rattle.vg_counters.specs.Tally.{Tally, IsSameSize, drops_at}
 use Rattle.vg_counters.specs.Notes.{Notes, nodes_of}
 use Rattle.vg_journeys.specs.Chains.{count_some}
-use Rattle.vg_journeys.specs.Trips.{Run, Arrival, Drawn, Taken, Trip, onward, logged, sent_by_trip, trip_visits, noted_of, is_of, IsTrip}
+use Rattle.vg_journeys.specs.Trips.{Run, Arrival, Drawn, Taken, Trip, contents_after, onward, logged, sent_by_trip, trip_visits, noted_of, is_of, IsTrip}
 use Rattle.vg_journeys.specs.Treks.{IsRefusal}
 
 -- a frame that is handed over: packets that a handoff node of one worker handed to another
@@ -65,10 +66,14 @@ came run count a =
 abbrev pub gone : Run → (Arrival → ℕ) → Account → ℕ
 gone run count a = sum_by (λ to. sum_by count (arrivals_in to (frames_with to a.put))) (below run.workers)
 
--- 1 for a packet that was drawn
-abbrev pub is_drawn : Arrival → ℕ
-is_drawn (Drawn number bytes) = 1
-is_drawn (Taken worker node c) = 0
+-- the buffers that a packet took as it was drawn
+abbrev pub drawn_pieces : Arrival → ℕ
+drawn_pieces (Drawn number bytes) = pieces_of (length bytes)
+drawn_pieces (Taken worker node c) = 0
+
+-- the buffers of a packet that is logged: its whole chain comes back
+abbrev pub freed_pieces : Trip → ℕ
+freed_pieces t = count_some (λ (f : Fate). (contents_after t).pieces) (logged t)
 
 -- from one moment to another a worker makes these trips and nothing else: one for each packet that came to it, each as often; each
 -- is logged, or went on in a frame that a queue accepted; what is kept grows by what they log, send, visit and drop
@@ -93,5 +98,5 @@ pub record Adds (run : Run) (old new : Account) (trips : List Trip) : Type 0 whe
   pub notes : (number leg : ℕ) → number < length old.trace → sum_by (is_of number leg) trips ≤ 1
       → (0 < sum_by (is_of number leg) trips → nodes_of number leg old.trace ≡ [])
       → nodes_of number leg new.trace ≡ nodes_of number leg old.trace ++ flat_map (noted_of number leg) trips
-  pub allocated : new.allocated ≡ old.allocated + sum_by (λ t. is_drawn t.arrival) trips
-  pub freed : new.freed ≡ old.freed + length (filter_map logged trips)
+  pub allocated : new.allocated ≡ old.allocated + sum_by (λ t. drawn_pieces t.arrival) trips
+  pub freed : new.freed ≡ old.freed + sum_by freed_pieces trips

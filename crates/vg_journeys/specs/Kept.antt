@@ -1,25 +1,30 @@
 -- What a run on several workers comes to.
-use Rattle.std.specs.Prelude.{◌≡◌, ℕ, ◌*◌, ◌%◌, ◌==◌, ◌<◌, ◌≤◌, List, [], length, map, slice_index, slice_index_or}
-use Rattle.std.specs.List.{sum_by, count_by}
+use Rattle.std.specs.Prelude.{◌≡◌, ℕ, ◌*◌, ◌==◌, ◌<◌, ◌≤◌, List, [], length, map, slice_index, slice_index_or, if◌then◌else◌}
+use Rattle.std.specs.List.{sum_by}
 use Rattle.vg_model.specs.declared.kinds.DropError.{DropError}
 use Rattle.vg_model.specs.declared.fates.Fate.{Fate}
 use Rattle.vg_model.specs.Errors.{error_number}
 use Rattle.vg_model.specs.Journey.{Journey, Choice, fates, sent}
 use Rattle.vg_model.specs.Count.{trace, node_count, error_count, interface_count}
 use Rattle.vg_model.specs.Lawful.{AreLawfulChoices, hands_in, last_worker}
+use Rattle.vg_model.specs.PoolBook.{pieces_of}
 use Rattle.vg_counters.specs.Tally.{drops_at}
 use Rattle.vg_counters.specs.Notes.{merged}
 use Rattle.vg_journeys.specs.Trips.{Run, number_of}
-use Rattle.vg_journeys.specs.Runs.{AreInside}
-use Rattle.vg_journeys.specs.Accounts.{Account, below, frames_with, arrivals_in}
+use Rattle.vg_journeys.specs.Runs.{AreInside, chain_of}
+use Rattle.vg_journeys.specs.Accounts.{Account, below, frames_with, arrivals_in, draws_from, drawn_pieces}
 
--- how many of so many packets are a worker's own, which it draws: those whose number leaves its own over the number of workers
-abbrev pub own_packets : (workers worker packets : ℕ) → ℕ
-own_packets workers worker packets = count_by (λ number. number % workers == worker) (below packets)
+-- how many buffers packets take as they are drawn
+abbrev pub all_pieces : List (List ℕ) → ℕ
+all_pieces packets = sum_by (λ (bytes : List ℕ). pieces_of (length bytes)) packets
 
--- how many packets end on a worker: the last leg of their journeys is on it
-abbrev pub ended_on : ℕ → List Journey → ℕ
-ended_on worker js = count_by (λ j. last_worker j.course.legs == worker) js
+-- and those of a worker's own packets, which it draws: those whose number leaves its own over the number of workers
+abbrev pub own_pieces : (workers worker : ℕ) → List (List ℕ) → ℕ
+own_pieces workers worker packets = sum_by drawn_pieces (draws_from 0 workers worker (length packets) packets)
+
+-- the buffers of the packets that end on a worker: the last leg of their journeys is on it
+abbrev pub ended_pieces : (worker : ℕ) → List (List ℕ) → List Journey → ℕ
+ended_pieces worker packets js = sum_by (λ j. if last_worker j.course.legs == worker then chain_of packets j.number else 0) js
 
 -- what all workers have kept together is what the journeys of the packets say, one journey for each packet, under lawful choices
 pub record AreKept (run : Run) (traced : ℕ) (at : ℕ → Account) : Type 0 where
@@ -43,8 +48,8 @@ pub record AreKept (run : Run) (traced : ℕ) (at : ℕ → Account) : Type 0 wh
       → sum_by (λ e. count (number_of e)) (arrivals_in to (frames_with to (at from).put)) ≡ sum_by (λ j. count j.number * hands_in from to j.course.legs) js
   -- each buffer that a cache gave out came back to one
   pub as_many : length js ≡ length run.packets
-  pub allocated : sum_by (λ w. (at w).allocated) (below run.workers) ≡ length run.packets
-  pub freed : sum_by (λ w. (at w).freed) (below run.workers) ≡ length run.packets
-  -- each cache gave out one buffer for each packet that its worker drew, and took one in for each that ended there
-  pub allocated_by : (w : ℕ) → w < run.workers → (at w).allocated ≡ own_packets run.workers w (length run.packets)
-  pub freed_by : (w : ℕ) → w < run.workers → (at w).freed ≡ ended_on w js
+  pub allocated : sum_by (λ w. (at w).allocated) (below run.workers) ≡ all_pieces run.packets
+  pub freed : sum_by (λ w. (at w).freed) (below run.workers) ≡ all_pieces run.packets
+  -- each cache gave out the chains of the packets that its worker drew, and took in those of the packets that ended there
+  pub allocated_by : (w : ℕ) → w < run.workers → (at w).allocated ≡ own_pieces run.workers w run.packets
+  pub freed_by : (w : ℕ) → w < run.workers → (at w).freed ≡ ended_pieces w run.packets js

@@ -15,3 +15,4 @@ pub mod Ends
 pub mod Ended
 pub mod Counts
 pub mod Balance
+pub mod Stays

@@ -11,6 +11,7 @@ use Rattle.vg_model.specs.Leg.{Outcome, Sent, Dropped, Handed, Way}
 use Rattle.vg_model.specs.Journey.{first_leg, leg_from, end_of, sent_as}
 use Rattle.vg_model.specs.Count.{drop_visit}
 use Rattle.vg_model.specs.Edit.{most_nodes}
+use Rattle.vg_model.specs.PoolBook.{pieces_of}
 use Rattle.vg_pool.specs.Contents.{Contents}
 use Rattle.vg_journeys.specs.Ends.{IsOutcomeIn, AreNodesOf, IsShort}
 
@@ -38,6 +39,11 @@ abbrev pub legs_before : Arrival → List Leg
 legs_before (Drawn number bytes) = []
 legs_before (Taken worker node c) = c.legs
 
+-- how many buffers its chain has: as many as it takes when it is drawn; one that was handed over keeps its chain
+abbrev pub pieces_before : Arrival → ℕ
+pieces_before (Drawn number bytes) = pieces_of (length bytes)
+pieces_before (Taken worker node c) = c.pieces
+
 abbrev pub worker_of : (workers : ℕ) → Arrival → ℕ
 worker_of workers (Drawn number bytes) = number % workers
 worker_of workers (Taken worker node c) = worker
@@ -63,9 +69,9 @@ here t = record { worker = t.worker; generation = t.generation }
 abbrev pub legs_of : Trip → List Leg
 legs_of t = legs_before t.arrival ++ here t ∷ []
 
--- the packet as it is behind the leg
+-- the packet as it is behind the leg, over the same chain
 abbrev pub contents_after : Trip → Contents
-contents_after t = record { packet = t.way.packet; legs = legs_of t }
+contents_after t = record { packet = t.way.packet; legs = legs_of t; pieces = pieces_before t.arrival }
 
 -- where the packet goes on: with a worker, whose queue has accepted it
 abbrev pub onward_by : Contents → Outcome → Option ℕ → Option Arrival
@@ -140,9 +146,10 @@ pub record IsTrip (run : Run) (t : Trip) : Type 0 where
   pub is_worker : t.worker ≡ worker_of run.workers t.arrival
   pub in_time : IsInTime run.first t.generation t.arrival
   pub number : t.way.packet.number ≡ number_of t.arrival
-  -- it ends in the graph, visits nodes of it, and no more than these; where it sends the packet, this fits a buffer
+  -- it ends in the graph, visits nodes of it, and no more than these; where it sends the packet, it and its room are no more together than
+  -- those of the longest packet that is drawn
   pub inside : IsOutcomeIn graph t.way.outcome
   pub passes : AreNodesOf graph (trip_visits t)
   pub few : length (trip_visits t) ≤ most_nodes + 2
-  pub short : IsShort t.way.outcome t.way.packet.bytes
+  pub short : IsShort t.way.outcome t.way.packet
   pub handover : IsHandover graph run.workers t.worker (length (legs_before t.arrival)) t.way.outcome t.refused

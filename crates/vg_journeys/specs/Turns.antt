@@ -8,17 +8,17 @@ use Rattle.vg_model.specs.Errors.{error_number}
 use Rattle.vg_model.specs.declared.kinds.Kind.TheVariants as kinds
 use Rattle.vg_model.specs.declared.kinds.HashKind.{HashKind}
 use Rattle.vg_model.specs.Graph.{Graph, kind_at}
-use Rattle.vg_model.specs.Valid.{IsPacket, AreBytes}
+use Rattle.vg_model.specs.Valid.{IsPacket, AreBytes, extent}
 use Rattle.vg_model.specs.Leg.{Outcome, Sent, Dropped, Handed, Way}
-use Rattle.vg_model.specs.Journey.{end_of, sent_as, longest_packet}
+use Rattle.vg_model.specs.Journey.{end_of, sent_as, longest_extent}
 use Rattle.vg_model.specs.Count.{is_drop, is_sent_on, drop_visit}
 use Rattle.vg_counters.specs.Tally.{IsSameSize, drops_at}
 use Rattle.vg_counters.specs.Notes.{nodes_of}
 use Rattle.vg_journeys.specs.Ended.{Ended, ended_by, counted_visits}
 use Rattle.vg_journeys.specs.Chains.{count_some}
-use Rattle.vg_journeys.specs.Trips.{Run, Arrival, Drawn, Taken, number_of, legs_before, worker_of, arrival_leg, onward_by, logged_by, IsInTime}
+use Rattle.vg_journeys.specs.Trips.{Run, Arrival, Drawn, Taken, number_of, legs_before, pieces_before, worker_of, arrival_leg, onward_by, logged_by, IsInTime}
 use Rattle.vg_journeys.specs.Treks.{IsRefusal}
-use Rattle.vg_journeys.specs.Accounts.{Account, came, gone, frames_with, is_drawn}
+use Rattle.vg_journeys.specs.Accounts.{Account, came, gone, frames_with, drawn_pieces}
 
 -- a packet whose leg is over, and, where a full queue refused it, how many frames that queue had accepted
 pub record Settled : Type 0 where
@@ -33,6 +33,10 @@ settled_log s = logged_by s.ended.contents s.ended.outcome s.refused
 
 abbrev pub settled_sent : Settled → Option (ℕ × List ℕ)
 settled_sent s = sent_as s.ended.contents.packet.number s.ended.contents.packet.bytes s.ended.outcome
+
+-- the buffers that come back of it
+abbrev pub settled_pieces : Settled → ℕ
+settled_pieces s = count_some (λ (f : Fate). s.ended.contents.pieces) (settled_log s)
 
 -- the visit of `error-drop` that a refusal brings
 abbrev pub refusal_visits : Outcome → Option ℕ → List ℕ
@@ -65,15 +69,16 @@ abbrev pub way_at : Run → Place → Arrival → Option Way
 way_at run place e = arrival_leg run.visit place.graph run.workers place.worker e
 
 abbrev pub end_at : Run → Place → Arrival → Option Ended
-end_at run place e = option_map (ended_by (legs_with place e)) (way_at run place e)
+end_at run place e = option_map (ended_by (legs_with place e) (pieces_before e)) (way_at run place e)
 
 abbrev pub visits_at : Run → Place → Arrival → List ℕ
 visits_at run place e = unwrap_or (option_map counted_visits (way_at run place e)) []
 
--- a packet that may be; one that was handed over has at most three legs
+-- a packet that may be; one that was handed over has at most three legs, and it and its room are no more together than those of the longest
+-- packet that is drawn
 abbrev pub IsSoundArrival : Arrival → Type 0
 IsSoundArrival (Drawn number bytes) = AreBytes bytes
-IsSoundArrival (Taken worker node c) = IsPacket c.packet × (length c.legs ≤ 3) × (length c.packet.bytes ≤ longest_packet)
+IsSoundArrival (Taken worker node c) = IsPacket c.packet × (length c.legs ≤ 3) × (extent c.packet ≤ longest_extent)
 
 -- a packet may come there
 pub record MayArrive (run : Run) (place : Place) (e : Arrival) : Type 0 where
@@ -125,5 +130,5 @@ pub record IsTurn (run : Run) (place : Place) (arrivals : List Arrival) (old new
   pub notes : (number leg : ℕ) → number < length old.trace → sum_by (arrival_is_of number leg) arrivals ≤ 1
       → (0 < sum_by (arrival_is_of number leg) arrivals → nodes_of number leg old.trace ≡ [])
       → nodes_of number leg new.trace ≡ nodes_of number leg old.trace ++ (flat_map (arrival_noted run place number leg) arrivals ++ flat_map (settled_noted number leg) settled)
-  pub allocated : new.allocated ≡ old.allocated + sum_by is_drawn arrivals
-  pub freed : new.freed ≡ old.freed + length (filter_map settled_log settled)
+  pub allocated : new.allocated ≡ old.allocated + sum_by drawn_pieces arrivals
+  pub freed : new.freed ≡ old.freed + sum_by settled_pieces settled

@@ -10,12 +10,13 @@ ghost use Rattle.vg_model.specs.Journey.{Journey, journey, first_leg, leg_from};
 ghost use Rattle.vg_model.specs.Valid.{IsValid, IsKindSet, IsPacket, AreBytes};
 ghost use Rattle.vg_model.specs.declared.fates.Fate.{Fate};
 ghost use Rattle.vg_counters.specs.Tally.{Tally};
-ghost use Rattle.vg_journeys.specs.Trips.{Run, Arrival, Trip};
+ghost use Rattle.vg_journeys.specs.Trips.{Run, Arrival, Trip, pieces_before};
 ghost use Rattle.vg_journeys.specs.Runs.{AreAllTrips, AreJourneys};
 ghost use Rattle.vg_journeys.specs.Accounts.{Account, HandoffFrame, Adds, below, arrivals_in, came};
 ghost use Rattle.vg_journeys.specs.Counts.{IsCountIn};
 ghost use Rattle.vg_journeys.specs.Balance.{IsBalanced};
 ghost use Rattle.vg_journeys.specs.Moments.{begun, StandsFor, IsMoment, IsConserved, IsOver, trips_of, on_the_way};
+ghost use Rattle.vg_journeys.specs.Stays.{ChainsStay};
 ghost use Rattle.vg_journeys.specs.Kept.{AreKept};
 ghost use Rattle.vg_journeys.specs.Turns.{Place, way_at, IsSoundArrival, ComesFrom, IsTurn};
 ghost use Rattle.vg_journeys.specs.Steps.{IsStep, replaced};
@@ -24,8 +25,8 @@ ghost use Rattle.vg_journeys.specs.Outcomes.{IsGathered, IsOutcome};
 ghost use Rattle.vg_journeys.specs.SameEnd.{IsWithinLimit, EndsAlone};
 ghost use Rattle.vg_journeys.specs.LegFacts.{IsLegOf};
 
-/// A leg keeps a packet's number and makes it no longer; it hands it over at a handoff node, to another worker of the run, and where
-/// it isn't the fourth.
+/// A leg keeps a packet's number, makes it and its room no larger together, and leaves no more room than a packet may have; it hands it
+/// over at a handoff node, to another worker of the run, and where it isn't the fourth.
 pub fn legs_hand_over()
     ensures first { (visit : Visit) (g : Graph) (workers worker number : ℕ) (bytes : List ℕ) (way : Way) → IsKindSet visit → IsValid g → 0 < workers
         → AreBytes bytes → first_leg visit g workers worker (fresh number bytes) ≡ Some way → IsLegOf g workers worker 1 (fresh number bytes) way }
@@ -111,8 +112,15 @@ pub fn nothing_is_lost()
 /// frames were taken as it accepted has nothing left.
 pub fn buffers_are_counted()
     ensures counted { (run : Run) (traced : ℕ) (at : ℕ → Account) (rest : ℕ → ℕ → List HandoffFrame) → IsMoment run traced at rest
-        → sum_by (λ w. (at w).allocated) (below run.workers) ≡ sum_by (λ w. (at w).freed) (below run.workers) + on_the_way run rest (λ e. 1) }
+        → sum_by (λ w. (at w).allocated) (below run.workers) ≡ sum_by (λ w. (at w).freed) (below run.workers) + on_the_way run rest pieces_before }
     ensures left { (put taken rest : List HandoffFrame) → put ≡ taken ++ rest → length put ≡ length taken → rest ≡ [] }
+{}
+
+/// At any moment each packet has the chain that the capture's packet of its number took when it was drawn: behind every leg that it has gone
+/// through, and in every frame on its way.
+pub fn chains_stay()
+    ensures { (run : Run) (traced : ℕ) (at : ℕ → Account) (rest : ℕ → ℕ → List HandoffFrame) (moment : IsMoment run traced at rest)
+        → ChainsStay run rest (trips_of run traced at (below run.workers) moment.stand) }
 {}
 
 /// Trips of which each begins with a packet of the capture, or where another one went on, are the journeys of the packets, one for

@@ -39,12 +39,12 @@ abbrev neighbors_from : (line : ℕ) → List EditLine
 neighbors_from line =
     record { line = line; edit = edits.Adjacency (codes "a") (codes "pg0") (mac 10) }
     ∷ record { line = line + 1; edit = edits.Adjacency (codes "b") (codes "pg0") (mac 11) }
-    ∷ record { line = line + 2; edit = edits.Route (prefix 0x0a000000 8 tt tt) (targets.Via (codes "a")) }
+    ∷ record { line = line + 2; edit = edits.Route (prefix 0x0a000000 8 tt tt) (targets.Via (codes "a" ∷ [])) }
     ∷ []
 
 -- the upper half of the addresses, over this neighbor
 abbrev half_over : (line : ℕ) → List ℕ → List EditLine
-half_over line neighbor = record { line = line; edit = edits.Route (prefix 0x0a800000 9 tt tt) (targets.Via neighbor) } ∷ []
+half_over line neighbor = record { line = line; edit = edits.Route (prefix 0x0a800000 9 tt tt) (targets.Via (neighbor ∷ [])) } ∷ []
 
 -- four changes of it, the block of which begins on this line
 abbrev ticks_from : (line : ℕ) → Block

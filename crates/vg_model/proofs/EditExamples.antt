@@ -1,10 +1,16 @@
 -- Worked examples of edits that are refused, and of generations.
-use Rattle.std.proofs.Common.{◌≡◌, ℕ, lit≤, List, [], ◌∷◌, refl}
-use Rattle.std.specs.Prelude.{codes, Err}
+use Rattle.std.proofs.Common.{◌≡◌, ℕ, lit≤, List, [], ◌∷◌, map, refl}
+use Rattle.std.specs.Prelude.{codes, Err, Some, None, option_map}
+use Rattle.std.specs.Result.{result_ok}
+use Rattle.std.specs.Fmt.{digits}
 use Rattle.vg_model.specs.declared.kinds.Kind.TheVariants as kinds
 use Rattle.vg_model.specs.declared.edits.Edit.{Edit}
 use Rattle.vg_model.specs.declared.edits.EditLine.{EditLine}
 use Rattle.vg_model.specs.declared.edits.Edit.TheVariants as edits
+use Rattle.vg_model.specs.declared.routes.Prefix6.{Prefix6}
+use Rattle.vg_model.specs.declared.routes.RouteWord.TheVariants as words
+use Rattle.vg_model.specs.KindWord.{vlan}
+use Rattle.vg_model.specs.Graph.{Graph, kind_entry, next_nodes}
 use Rattle.vg_model.specs.Start.{start_graph}
 use Rattle.vg_model.specs.Edit.{DoubleName, UnknownNode, UnknownSlot, BadTarget, Cycle, UnknownInterface, UnknownAdjacency, NoRoute, apply, apply_all}
 use Rattle.vg_model.specs.Generations.{generations}
@@ -66,3 +72,37 @@ route_over_an_unknown_adjacency = refl
 -- a route that is not there cannot be taken out
 unroute_of_no_route : apply start_graph (edits.Unroute (prefix (ip 10 0 0 0) 8 (lit≤ tt) refl)) ≡ Err NoRoute
 unroute_of_no_route = refl
+
+-- a second adjacency of a route that isn't there
+route_over_an_unknown_second_adjacency :
+    apply_all start_graph (lines_from 1 (adjacency (codes "a") (codes "pg0") 1 ∷ edits.Route everywhere (words.Via (codes "a" ∷ codes "b" ∷ [])) ∷ []))
+    ≡ Err (2, UnknownAdjacency)
+route_over_an_unknown_second_adjacency = refl
+
+-- the prefix of all IPv6 addresses
+abbrev everywhere6 : Prefix6
+everywhere6 = record { addr = 0; len = 0; few = lit≤ tt; host_bits = refl }
+
+-- an IPv4 route is no IPv6 route
+unroute6_of_an_ip4_route : apply_all start_graph (lines_from 1 (edits.Route everywhere words.Drop ∷ edits.Unroute6 everywhere6 ∷ [])) ≡ Err (2, NoRoute)
+unroute6_of_an_ip4_route = refl
+
+-- a new node of two slots has two arcs, and both lead to `error-drop`
+two_arcs_of_a_new_node : option_map (λ (g : Graph). next_nodes g 9) (result_ok (apply start_graph (edits.Node (codes "eth") kinds.EthernetDual))) ≡ Some (8 ∷ 8 ∷ [])
+two_arcs_of_a_new_node = refl
+
+-- the second slot counts where a cycle is looked for
+cycle_over_a_second_slot : apply_all start_graph (lines_from 1 (edits.Node (codes "cut") (kinds.Dot1qMatch (vlan 100 tt tt))
+    ∷ edits.Arc (codes "cut") (codes "else") (codes "ethernet-input") ∷ edits.Arc (codes "ethernet-input") (codes "ip4") (codes "cut") ∷ []))
+    ≡ Err (3, Cycle)
+cycle_over_a_second_slot = refl
+
+-- words of kinds with a number: VLAN ids 1 to 4094, interfaces 0 to 15
+words_with_a_number : map (λ kind. (kind_entry kind).word) (kinds.Dot1qMatch (vlan 1 tt tt) ∷ kinds.Dot1qPush (vlan 4094 tt tt) ∷ kinds.CrossConnect 15 ∷ [])
+    ≡ Some (codes "dot1q-match-1") ∷ Some (codes "dot1q-push-4094") ∷ Some (codes "xconnect-15") ∷ []
+unfolding digits
+words_with_a_number = refl
+
+-- beyond that there is none
+no_words_beyond : (kind_entry (kinds.CrossConnect 16)).word ≡ None
+no_words_beyond = refl

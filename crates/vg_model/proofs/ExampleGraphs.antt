@@ -42,7 +42,7 @@ prefix addr len few host_bits = record { addr = addr; len = len; few = few; host
 
 -- a route to a prefix over an adjacency
 abbrev pub route : Prefix → (via : List ℕ) → Edit
-route to via = edits.Route to (words.Via via)
+route to via = edits.Route to (words.Via (via ∷ []))
 
 -- the prefix that covers every address
 abbrev pub everywhere : Prefix

@@ -5,7 +5,10 @@ use Rattle.vg_model.specs.declared.fates.End.TheVariants as ends
 use Rattle.vg_model.specs.declared.kinds.DropError.TheVariants as errors
 use Rattle.vg_model.specs.declared.edits.Edit.{Edit}
 use Rattle.vg_model.specs.declared.edits.Edit.TheVariants as edits
+use Rattle.vg_model.specs.declared.kinds.HashKind.TheVariants.{Flow}
+use Rattle.vg_model.specs.declared.routes.RouteWord.TheVariants as words
 use Rattle.vg_model.specs.Header.{ones_sum}
+use Rattle.vg_model.specs.Hash.{flow_hash}
 use Rattle.vg_model.specs.Graph.{Graph}
 use Rattle.vg_model.proofs.Frames.{ip, ethernet, frame, plain_frame, plain_header_lowered, full_header, full_header_lowered, header_with_options}
 use Rattle.vg_model.proofs.ExampleGraphs.{built, adjacency, prefix, everywhere, route, east, fates_alone, sent_alone, ended}
@@ -115,3 +118,30 @@ filter_mtu_and_interface_down : fates_alone filter_and_down
     ∷ [])
 unfolding ones_sum
 filter_mtu_and_interface_down = refl
+
+-- a route over two adjacencies, and one in which the first stands twice
+abbrev pub over_two : List (List ℕ) → Graph
+over_two names =
+    built (adjacency (codes "e0") (codes "pg0") 0x10 ∷ adjacency (codes "e1") (codes "pg0") 0x11
+    ∷ edits.Route (prefix (ip 10 1 0 0) 16 (lit≤ tt) refl) (words.Via names) ∷ [])
+
+-- two flows, whose hashes differ in the fourth bit from below
+abbrev pub two_flows : List (List ℕ)
+two_flows = frame (ip 192 0 2 1) (ip 10 1 2 3) 64 20 34 ∷ frame (ip 192 0 2 1) (ip 10 1 2 11) 64 20 34 ∷ []
+
+-- their hashes
+two_flows_hashes : map (flow_hash Flow) two_flows ≡ 0xCACBCBC9 ∷ 0xCACBCBC1 ∷ []
+unfolding ones_sum
+two_flows_hashes = refl
+
+-- the one goes over the second adjacency and the other over the first
+two_flows_part : option_map (map (λ sent. take 6 sent.1)) (sent_alone (over_two (codes "e0" ∷ codes "e1" ∷ [])) two_flows)
+    ≡ Some ((2 ∷ 0 ∷ 0 ∷ 0 ∷ 0 ∷ 0x11 ∷ []) ∷ (2 ∷ 0 ∷ 0 ∷ 0 ∷ 0 ∷ 0x10 ∷ []) ∷ [])
+unfolding ones_sum
+two_flows_part = refl
+
+-- an adjacency that stands twice counts twice
+a_member_stands_twice : option_map (map (λ sent. take 6 sent.1)) (sent_alone (over_two (codes "e1" ∷ codes "e1" ∷ codes "e0" ∷ [])) (take 1 two_flows))
+    ≡ Some ((2 ∷ 0 ∷ 0 ∷ 0 ∷ 0 ∷ 0x10 ∷ []) ∷ [])
+unfolding ones_sum
+a_member_stands_twice = refl

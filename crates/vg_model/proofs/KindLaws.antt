@@ -15,7 +15,9 @@ use Rattle.vg_model.specs.declared.routes.RouteTo.TheVariants as routes
 use Rattle.vg_model.specs.Graph.{Graph, kind_at, slots}
 use Rattle.vg_model.specs.Packet.{Packet}
 use Rattle.vg_model.specs.Route.{best_route}
+use Rattle.vg_model.specs.declared.kinds.HashKind.TheVariants.{Flow}
 use Rattle.vg_model.specs.Hash.{flow_hash}
+use Rattle.vg_model.specs.Members.{member}
 use Rattle.vg_model.specs.Visit.{next, dropped, datagram, header_fault, ethernet_input, forwarded, ip4_lookup, rewritten, sent_over, over_interface, over_adjacency, ip4_rewrite, interface_output, transmit_interface}
 use Rattle.vg_model.specs.Visit.{adjacency_of, visit_of, ip4_visit, destination, time_to_live, total_len, ethernet_len, is_foreign}
 use Rattle.vg_model.specs.Bytes.{number16_at}
@@ -26,7 +28,7 @@ use Rattle.vg_model.proofs.Rewrites.{IsRewritten, rewritten_is}
 
 -- the packet as it was
 stays : (g : Graph) (n : ℕ) (p : Packet) (step : Step) → IsPacket p → IsStepOf g (kind_at g n) step → IsVisitOf g n p (step, p)
-stays g n p step packet h = record { step = h; number = refl; len = omega arith; packet = packet }
+stays g n p step packet h = record { step = h; number = refl; no_larger = omega arith; room = λ few _. few; packet = packet }
 
 module _ (g : Graph) (n : ℕ) (p : Packet) (valid : IsValid g) (packet : IsPacket p) (kind : Kind) (at : kind_at g n ≡ Some kind) where
   drops : (error : DropError) → IsVisitOf g n p (dropped error p)
@@ -36,8 +38,15 @@ module _ (g : Graph) (n : ℕ) (p : Packet) (valid : IsValid g) (packet : IsPack
   goes_on h = stays g n p (Next 0) packet (subst (λ o. IsStepOf g o (Next 0)) (sym at) h)
 
   -- the step Next and a packet after it
-  goes_with : (after : Packet) → 0 < length (slots kind) → after.number ≡ p.number → length after.bytes ≤ length p.bytes → IsPacket after → IsVisitOf g n p (next after)
-  goes_with after h number len kept = record { step = subst (λ o. IsStepOf g o (Next 0)) (sym at) h; number = number; len = len; packet = kept }
+  goes_with : (after : Packet) → 0 < length (slots kind) → after.number ≡ p.number → after.room ≡ p.room → length after.bytes ≤ length p.bytes → IsPacket after
+      → IsVisitOf g n p (next after)
+  goes_with after h number room len kept = record {
+    step = subst (λ o. IsStepOf g o (Next 0)) (sym at) h;
+    number = number;
+    no_larger = omega (arith, room, len);
+    room = λ few _. omega (arith, room, few);
+    packet = kept;
+  }
 
   -- a test, and what follows in each case
   tested : (b : Bool) (x y : Step × Packet) → (b ≡ true → IsVisitOf g n p x) → (b ≡ false → IsVisitOf g n p y) → IsVisitOf g n p (if b then x else y)
@@ -55,19 +64,21 @@ module _ (g : Graph) (n : ℕ) (p : Packet) (valid : IsValid g) (packet : IsPack
 
   checked_laws : 0 < length (slots kind) → (o : Option DropError) → header_fault (datagram p) ≡ o
       → IsVisitOf g n p (unwrap_or (option_map (λ error. dropped error p) o) (next (record p { checked = true })))
-  checked_laws h None e = goes_with (record p { checked = true }) h refl (omega arith) (record { bytes = packet.bytes; sound = λ _. e })
+  checked_laws h None e = goes_with (record p { checked = true }) h refl refl (omega arith) (record { bytes = packet.bytes; sound = λ _. e })
   checked_laws h (Some error) e = drops error
 
-  forwarded_laws : 0 < length (slots kind) → (o : Option RouteTo) → IsVisitOf g n p (forwarded o p)
-  forwarded_laws h None = drops errors.NoRoute
-  forwarded_laws h (Some routes.Drop) = drops errors.RouteDrop
-  forwarded_laws h (Some routes.Local) = drops errors.Local
-  forwarded_laws h (Some (routes.Via a)) = goes_with (record p { adjacency = Some a }) h refl (omega arith) (record { bytes = packet.bytes; sound = packet.sound })
+  forwarded_laws : 0 < length (slots kind) → (o : Option RouteTo) (hash : ℕ) → IsVisitOf g n p (forwarded o hash p)
+  forwarded_laws h None hash = drops errors.NoRoute
+  forwarded_laws h (Some routes.Drop) hash = drops errors.RouteDrop
+  forwarded_laws h (Some routes.Local) hash = drops errors.Local
+  forwarded_laws h (Some (routes.Via members)) hash =
+      goes_with (record p { adjacency = Some (member members hash) }) h refl refl (omega arith) (record { bytes = packet.bytes; sound = packet.sound })
 
   lookup_laws : 0 < length (slots kind) → IsVisitOf g n p (ip4_lookup g p)
   lookup_laws h =
       let route : Option RouteTo = best_route g.routes (destination (datagram p)) in
-      tested (not p.checked) (dropped errors.Unchecked p) (forwarded route p) (λ _. drops errors.Unchecked) (λ _. forwarded_laws h route)
+      let hash = flow_hash Flow p.bytes in
+      tested (not p.checked) (dropped errors.Unchecked p) (forwarded route hash p) (λ _. drops errors.Unchecked) (λ _. forwarded_laws h route hash)
 
   output_laws : 0 < length (slots kind) → IsVisitOf g n p (interface_output g p)
   output_laws h =
@@ -90,7 +101,7 @@ module _ (g : Graph) (n : ℕ) (p : Packet) (valid : IsValid g) (packet : IsPack
       tested g n p valid packet kind at (nat_lt interface.mtu (total_len (datagram p))) (dropped errors.MtuExceeded p) (next after)
       (λ _. drops g n p valid packet kind at errors.MtuExceeded) (λ _.
       let new : IsRewritten p.bytes after.bytes = rewritten_is adjacency interface p.bytes m1 m2 packet.bytes (packet.sound c) more in
-      goes_with g n p valid packet kind at after h refl (omega (arith, new.len)) (record { bytes = new.bytes; sound = λ _. new.fault })))
+      goes_with g n p valid packet kind at after h refl refl (omega (arith, new.len)) (record { bytes = new.bytes; sound = λ _. new.fault })))
 
   interface_laws : 0 < length (slots kind) → p.checked ≡ true → (a : Adjacency) → IsMac a.mac → (o : Option Interface) → ((i : Interface) → o ≡ Some i → IsMac i.mac)
       → IsVisitOf g n p (over_interface a o p)
@@ -126,6 +137,14 @@ kind_laws g n p valid packet (kinds.WorkerHandoff hash) at =
 kind_laws g n p valid packet kinds.ErrorDrop at = drops g n p valid packet kinds.ErrorDrop at errors.Blackhole
 kind_laws g n p valid packet kinds.PgInput at = drops g n p valid packet kinds.PgInput at errors.Blackhole
 kind_laws g n p valid packet kinds.HandoffDequeue at = drops g n p valid packet kinds.HandoffDequeue at errors.Blackhole
+kind_laws g n p valid packet kinds.EthernetDual at = drops g n p valid packet kinds.EthernetDual at errors.Blackhole
+kind_laws g n p valid packet kinds.Ip6Input at = drops g n p valid packet kinds.Ip6Input at errors.Blackhole
+kind_laws g n p valid packet kinds.Ip6Lookup at = drops g n p valid packet kinds.Ip6Lookup at errors.Blackhole
+kind_laws g n p valid packet kinds.Ip6Rewrite at = drops g n p valid packet kinds.Ip6Rewrite at errors.Blackhole
+kind_laws g n p valid packet (kinds.Dot1qMatch id) at = drops g n p valid packet (kinds.Dot1qMatch id) at errors.Blackhole
+kind_laws g n p valid packet (kinds.Dot1qPush id) at = drops g n p valid packet (kinds.Dot1qPush id) at errors.Blackhole
+kind_laws g n p valid packet (kinds.Dot1qRewrite id) at = drops g n p valid packet (kinds.Dot1qRewrite id) at errors.Blackhole
+kind_laws g n p valid packet (kinds.CrossConnect interface) at = drops g n p valid packet (kinds.CrossConnect interface) at errors.Blackhole
 
 -- the laws at a node that may not be there
 maybe_laws : (g : Graph) (n : ℕ) (p : Packet) → IsValid g → IsPacket p → (o : Option Kind) → kind_at g n ≡ o

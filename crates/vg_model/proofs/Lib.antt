@@ -1,6 +1,8 @@
 pub mod NameLemmas
 pub mod SlotLemmas
+pub mod MembersLemmas
 pub mod Frames
+pub mod TagExamples
 pub mod HeaderExamples
 pub mod ExampleGraphs
 pub mod WireExamples
@@ -15,5 +17,6 @@ pub mod Journeys
 pub mod LegEnds
 pub mod StartValid
 pub mod KindLaws
+pub mod RoomLemmas
 pub mod Rewrites
 pub mod Arcs

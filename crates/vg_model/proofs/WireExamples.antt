@@ -55,14 +55,14 @@ thirteen_and_fourteen_bytes = refl
 abbrev pub of_length : ℕ → List ℕ
 of_length len = frame (ip 192 0 2 1) (ip 10 1 2 3) 64 20 len
 
--- the longest packet has 2048 bytes
-longest_packet_and_one_more : fates_alone wire (of_length 2048 ∷ of_length 2049 ∷ [])
+-- the longest packet has 9216 bytes
+longest_packet_and_one_more : fates_alone wire (of_length 9216 ∷ of_length 9217 ∷ [])
     ≡ Some (ended 0 (ends.Tx 0) ∷ ended 1 (ends.Dropped 0 errors.TooLong) ∷ [])
 unfolding ones_sum
 longest_packet_and_one_more = refl
 
 -- a longer one is dropped by the packet source
-longer_packets_are_counted : option_map (error_count 0 errors.TooLong) (run_alone wire (of_length 2048 ∷ of_length 2049 ∷ [])) ≡ Some 1
+longer_packets_are_counted : option_map (error_count 0 errors.TooLong) (run_alone wire (of_length 9216 ∷ of_length 9217 ∷ [])) ≡ Some 1
 unfolding ones_sum
 longer_packets_are_counted = refl
 

@@ -2,9 +2,9 @@
 use Rattle.std.specs.Prelude.{ℕ, zero, suc, Bool, true, false, ◌||◌, ◌==◌, nat_le, List, [], ◌∷◌, ◌++◌, length, replicate, remove, slice_get, slice_set, bytes_eq, Option, Some, None, is_some, ok_or, Result, Ok, Err, if◌then◌else◌}
 use Rattle.std.specs.List.{list_any, position_from}
 use Rattle.vg_model.specs.declared.kinds.Kind.{Kind}
-use Rattle.vg_model.specs.declared.kinds.Kind.TheVariants as kinds
 use Rattle.vg_model.specs.declared.kinds.Interface.{Interface}
 use Rattle.vg_model.specs.declared.routes.Prefix.{Prefix}
+use Rattle.vg_model.specs.declared.routes.Prefix6.{Prefix6}
 use Rattle.vg_model.specs.declared.routes.RouteTo.{RouteTo}
 use Rattle.vg_model.specs.declared.routes.RouteTo.TheVariants as routes
 use Rattle.vg_model.specs.declared.routes.RouteWord.{RouteWord}
@@ -13,8 +13,8 @@ use Rattle.vg_model.specs.declared.names.Mac.{Mac}
 use Rattle.vg_model.specs.declared.edits.Edit.{Edit}
 use Rattle.vg_model.specs.declared.edits.EditLine.{EditLine}
 use Rattle.vg_model.specs.declared.edits.Edit.TheVariants as edits
-use Rattle.vg_model.specs.Route.{same_prefix}
-use Rattle.vg_model.specs.Graph.{Graph, slots, next_nodes, error_drop}
+use Rattle.vg_model.specs.Route.{PrefixKind, RoutesOf, ip4, ip6, is_same}
+use Rattle.vg_model.specs.Graph.{Graph, slots, is_source, next_nodes, error_drop}
 
 -- why an edit is refused
 pub data Cause : Type 0 where
@@ -40,7 +40,7 @@ most_interfaces = 16
 abbrev pub most_adjacencies : ℕ
 most_adjacencies = 256
 
--- the most routes
+-- the most routes of each table
 abbrev pub most_routes : ℕ
 most_routes = 4096
 
@@ -98,12 +98,6 @@ abbrev pub leads : Graph → ℕ → ℕ → ℕ → Bool
 leads g zero from to = from == to
 leads g (suc arcs) from to = from == to || list_any (λ mid. leads g arcs mid to) (next_nodes g from)
 
--- packets are put into these nodes by no arc
-abbrev pub is_source : Kind → Bool
-is_source kinds.PgInput = true
-is_source kinds.HandoffDequeue = true
-is_source kind = false
-
 -- an arc from a slot of a node to a node
 abbrev pub with_arc : Graph → (from slot to : List ℕ) → Edited
 with_arc g from slot to = do
@@ -124,14 +118,30 @@ with_adjacency g name interface mac = do
   Ok (record g { adjacencies = list })
 
 -- the place of a prefix among routes
-abbrev pub route_place : Prefix → List (Prefix × RouteTo) → Option ℕ
-route_place prefix routes = position_from (λ route. same_prefix route.0 prefix) 0 routes
+abbrev pub place_in : {P : Type 0} → PrefixKind P → P → RoutesOf P → Option ℕ
+place_in kind prefix routes = position_from (λ route. is_same kind route.0 prefix) 0 routes
 
--- where a route leads, with its adjacency by number
-abbrev pub target_of : Graph → RouteWord → Result RouteTo Cause
-target_of g (words.Via name) = do
+-- among IPv4 routes
+abbrev pub route_place : Prefix → List (Prefix × RouteTo) → Option ℕ
+route_place prefix routes = place_in ip4 prefix routes
+
+-- among IPv6 routes
+abbrev pub route6_place : Prefix6 → List (Prefix6 × RouteTo) → Option ℕ
+route6_place prefix routes = place_in ip6 prefix routes
+
+-- the numbers of the adjacencies of these names, in order
+abbrev pub members_of : Graph → List (List ℕ) → Result (List ℕ) Cause
+members_of g [] = Ok []
+members_of g (name ∷ names) = do
   a ← ok_or (adjacency_named g name) UnknownAdjacency
-  Ok (routes.Via a)
+  others ← members_of g names
+  Ok (a ∷ others)
+
+-- where a route leads, with its adjacencies by number
+abbrev pub target_of : Graph → RouteWord → Result RouteTo Cause
+target_of g (words.Via names) = do
+  members ← members_of g names
+  Ok (routes.Via members)
 target_of g words.Local = Ok routes.Local
 target_of g words.Drop = Ok routes.Drop
 
@@ -148,6 +158,19 @@ without_route g prefix = do
   place ← ok_or (route_place prefix g.routes) NoRoute
   Ok (record g { routes = remove g.routes place })
 
+-- an IPv6 route, new or changed
+abbrev pub with_route6 : Graph → Prefix6 → RouteWord → Edited
+with_route6 g prefix word = do
+  to ← target_of g word
+  list ← placed most_routes (route6_place prefix g.routes6) (prefix, to) g.routes6
+  Ok (record g { routes6 = list })
+
+-- an IPv6 route taken out
+abbrev pub without_route6 : Graph → Prefix6 → Edited
+without_route6 g prefix = do
+  place ← ok_or (route6_place prefix g.routes6) NoRoute
+  Ok (record g { routes6 = remove g.routes6 place })
+
 -- the graph after an edit, or why the edit is refused
 abbrev pub apply : Graph → Edit → Edited
 apply g (edits.Interface name mac mtu up filter) =
@@ -157,6 +180,8 @@ apply g (edits.Arc from slot to) = with_arc g from slot to
 apply g (edits.Adjacency name interface mac) = with_adjacency g name interface mac
 apply g (edits.Route prefix to) = with_route g prefix to
 apply g (edits.Unroute prefix) = without_route g prefix
+apply g (edits.Route6 prefix to) = with_route6 g prefix to
+apply g (edits.Unroute6 prefix) = without_route6 g prefix
 
 -- the graph after edits in their order, or the line and the cause of the first that is refused
 abbrev pub apply_all : Graph → List EditLine → Result Graph (ℕ × Cause)

@@ -7,7 +7,9 @@ use Rattle.vg_model.specs.declared.fates.End.TheVariants as ends
 use Rattle.vg_model.specs.declared.fates.Leg.{Leg}
 use Rattle.vg_model.specs.declared.fates.Fate.{Fate}
 use Rattle.vg_model.specs.Packet.{Packet, fresh}
+pub use Rattle.vg_model.specs.Packet.{longest_packet}
 use Rattle.vg_model.specs.Graph.{Graph, arc, pg_input, handoff_dequeue}
+use Rattle.vg_model.specs.Valid.{most_extent}
 use Rattle.vg_model.specs.Visit.{Visit}
 use Rattle.vg_model.specs.Leg.{Outcome, Sent, Dropped, Handed, Way, leg, after_visit, ends_at, first_slot}
 
@@ -17,9 +19,9 @@ pub record Choice : Type 0 where
   pub generations : List ℕ
   pub accepted : Option ℕ
 
--- the most bytes of a packet that goes on from the packet source
-abbrev pub longest_packet : ℕ
-longest_packet = 2048
+-- the most that a packet of a journey and its room are together, wherever it goes on from the packet source
+abbrev pub longest_extent : ℕ
+longest_extent = most_extent
 
 -- a journey, or the end of one from a leg on: its legs, how the last of them ends, the packet then, and the nodes visited, in
 -- order

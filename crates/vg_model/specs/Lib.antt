@@ -2,11 +2,15 @@ pub mod Name
 pub mod Bytes
 pub mod Header
 pub mod Hash
+pub mod Members
 pub mod Route
 pub mod Packet
+pub mod Tag
 pub mod PoolBook
 pub mod Errors
+pub mod KindWord
 pub mod Graph
+pub mod nodes
 pub mod Visit
 pub mod Leg
 pub mod Valid

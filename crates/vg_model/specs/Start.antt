@@ -27,4 +27,5 @@ start_graph = record {
       ∷ [];
   adjacencies = [];
   routes = [];
+  routes6 = [];
 }

@@ -1,8 +1,9 @@
 -- Valid graphs, and the laws of a set of kinds (this project's profile).
-use Rattle.std.specs.Prelude.{◌≡◌, ℕ, zero, suc, ◌<◌, ◌≤◌, true, List, length, map, Option, Some, None, bytes_eq}
+use Rattle.std.specs.Prelude.{◌≡◌, ℕ, zero, suc, ◌+◌, ◌<◌, ◌≤◌, true, List, length, map, Option, Some, None, bytes_eq}
 use Rattle.std.specs.List.{IsDistinct, AllByRecursion}
 use Rattle.vg_model.specs.declared.names.Mac.{Mac}
-use Rattle.vg_model.specs.Route.{same_prefix}
+use Rattle.vg_model.specs.Members.{AreMembers}
+use Rattle.vg_model.specs.Route.{same_prefix, same_prefix6}
 use Rattle.vg_model.specs.declared.kinds.Kind.{Kind}
 use Rattle.vg_model.specs.declared.kinds.Kind.TheVariants as kinds
 use Rattle.vg_model.specs.declared.kinds.HashKind.{HashKind}
@@ -10,7 +11,7 @@ use Rattle.vg_model.specs.declared.kinds.Step.{Step}
 use Rattle.vg_model.specs.declared.kinds.Step.TheVariants.{Next, Tx, Dropped, Hand}
 use Rattle.vg_model.specs.declared.routes.RouteTo.{RouteTo}
 use Rattle.vg_model.specs.declared.routes.RouteTo.TheVariants as routes
-use Rattle.vg_model.specs.Packet.{Packet}
+use Rattle.vg_model.specs.Packet.{Packet, longest_packet, first_room}
 use Rattle.vg_model.specs.Graph.{Graph, kind_at, slots, arc, pg_input, handoff_dequeue, error_drop}
 use Rattle.vg_model.specs.Visit.{Visit, datagram, header_fault}
 
@@ -30,9 +31,9 @@ IsTarget (Some kinds.PgInput) = ⊥
 IsTarget (Some kinds.HandoffDequeue) = ⊥
 IsTarget (Some kind) = Unit {0}
 
--- a route's adjacencies are among so many
+-- a route has 1 to 16 adjacencies, and they are among so many
 abbrev pub IsRouteWithin : ℕ → RouteTo → Type 0
-IsRouteWithin adjacencies (routes.Via a) = a < adjacencies
+IsRouteWithin adjacencies (routes.Via members) = AreMembers members × AllByRecursion (λ a. a < adjacencies) members
 IsRouteWithin adjacencies routes.Local = Unit {0}
 IsRouteWithin adjacencies routes.Drop = Unit {0}
 
@@ -59,12 +60,14 @@ pub record IsValid (g : Graph) : Type 0 where
   pub interfaces : 1 ≤ length g.interfaces
   pub adjacencies : AllByRecursion (λ a. a.interface < length g.interfaces) g.adjacencies
   pub routes : AllByRecursion (λ r. IsRouteWithin (length g.adjacencies) r.1) g.routes
+  pub routes6 : AllByRecursion (λ r. IsRouteWithin (length g.adjacencies) r.1) g.routes6
   -- names differ
   pub node_names : IsDistinct bytes_eq (map (λ n. n.name) g.nodes)
   pub interface_names : IsDistinct bytes_eq (map (λ i. i.name) g.interfaces)
   pub adjacency_names : IsDistinct bytes_eq (map (λ a. a.name) g.adjacencies)
   -- no prefix has two routes
   pub one_route : IsDistinct same_prefix (map (λ r. r.0) g.routes)
+  pub one_route6 : IsDistinct same_prefix6 (map (λ r. r.0) g.routes6)
   -- addresses are six bytes
   pub interface_macs : AllByRecursion (λ i. IsMac i.mac) g.interfaces
   pub adjacency_macs : AllByRecursion (λ a. IsMac a.mac) g.adjacencies
@@ -84,11 +87,24 @@ pub record IsPacket (p : Packet) : Type 0 where
   pub bytes : AreBytes p.bytes
   pub sound : p.checked ≡ true → header_fault (datagram p) ≡ None
 
+-- the most room of a packet
+abbrev pub most_room : ℕ
+most_room = 128
+
+-- how long a packet and its room are together
+abbrev pub extent : Packet → ℕ
+extent p = length p.bytes + p.room
+
+-- the most that a packet and its room are together: those of the longest packet as it is received
+abbrev pub most_extent : ℕ
+most_extent = longest_packet + first_room
+
 -- the laws of a visit, from a packet to the packet after it
 pub record IsVisitOf (g : Graph) (n : ℕ) (p : Packet) (after : Step × Packet) : Type 0 where
   pub step : IsStepOf g (kind_at g n) after.0
   pub number : after.1.number ≡ p.number
-  pub len : length after.1.bytes ≤ length p.bytes
+  pub no_larger : extent after.1 ≤ extent p
+  pub room : p.room ≤ most_room → extent p ≤ most_extent → after.1.room ≤ most_room
   pub packet : IsPacket after.1
 
 -- a set of kinds keeps the laws at every node of a valid graph that arcs may lead to, for every packet that may be

@@ -3,7 +3,7 @@ ghost use Rattle.std.specs.Prelude.{◌≡◌};
 
 use crate::kinds::Kind;
 use crate::names::{Mac, Name};
-use crate::routes::{Prefix, RouteWord};
+use crate::routes::{Prefix, Prefix6, RouteWord};
 use std::marker::Model;
 
 /// A change of the graph.
@@ -34,14 +34,23 @@ pub enum Edit {
         interface: Name,
         mac: Mac,
     },
-    /// A new route, or a new target of the route for this prefix.
+    /// A new IPv4 route, or a new target of the IPv4 route for this prefix.
     Route {
         prefix: Prefix,
         to: RouteWord,
     },
-    /// The route for this prefix is taken out.
+    /// The IPv4 route for this prefix is taken out.
     Unroute {
         prefix: Prefix,
+    },
+    /// A new IPv6 route, or a new target of the IPv6 route for this prefix.
+    Route6 {
+        prefix: Prefix6,
+        to: RouteWord,
+    },
+    /// The IPv6 route for this prefix is taken out.
+    Unroute6 {
+        prefix: Prefix6,
     },
 }
 

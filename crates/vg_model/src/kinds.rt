@@ -1,11 +1,14 @@
 //! What the nodes of the graph are and do.
-ghost use Rattle.std.specs.Prelude.{◌≡◌, ◌<◌, ◌≤◌, length, map, MatchOption, IfSome, Some, None, bytes_eq};
+ghost use Rattle.std.specs.Prelude.{◌≡◌, ◌<◌, ◌≤◌, ◌++◌, decimal, length, map, IfSome, option_map, bytes_eq};
 ghost use Rattle.std.specs.List.{position_from};
 ghost use Rattle.vg_model.specs.Errors.{error_number, error_word};
-ghost use Rattle.vg_model.specs.Graph.{kind_entry, slots};
+ghost use Rattle.vg_model.specs.Graph.{kind_entry, slots, is_source as is_source_kind};
+ghost use Rattle.vg_model.specs.KindWord.{word_text};
 ghost use Rattle.vg_model.specs.Edit.{place_of};
 
+use crate::limits::MOST_INTERFACES;
 use crate::names::{Mac, Name};
+use crate::vlans::VlanId;
 
 /// Which IPv4 addresses of a frame a flow hash takes.
 #[derive(Clone, Copy, Debug, PartialEq, Eq)]
@@ -43,6 +46,41 @@ pub enum Kind {
     ErrorDrop,
     /// Lets a packet pass as it is.
     Pass,
+    /// Checks the Ethernet header, and parts IPv4 from IPv6.
+    EthernetDual,
+    /// Checks the IPv6 header (RFC 8200, section 3).
+    Ip6Input,
+    /// Finds the longest match for an IPv6 destination.
+    Ip6Lookup,
+    /// Writes the Ethernet header to the neighbor, and lowers the hop limit (RFC 8200, section 3).
+    Ip6Rewrite,
+    /// Takes the tag with this VLAN id off (IEEE 802.1Q).
+    Dot1qMatch(VlanId),
+    /// Puts a tag with this VLAN id on.
+    Dot1qPush(VlanId),
+    /// Gives the tag this VLAN id.
+    Dot1qRewrite(VlanId),
+    /// Sends what comes out on the interface of this number.
+    CrossConnect(u8),
+}
+
+/// The text in front of the VLAN id in the word of [`Kind::Dot1qMatch`].
+pub const MATCH_TEXT: &str = "dot1q-match-";
+
+/// The text in front of the VLAN id in the word of [`Kind::Dot1qPush`].
+pub const PUSH_TEXT: &str = "dot1q-push-";
+
+/// The text in front of the VLAN id in the word of [`Kind::Dot1qRewrite`].
+pub const REWRITE_TEXT: &str = "dot1q-rewrite-";
+
+/// The text in front of the interface's number in the word of [`Kind::CrossConnect`].
+pub const CONNECT_TEXT: &str = "xconnect-";
+
+/// The name of a kind, by which scripts say it: a text, and the number behind it, where the kind has one.
+#[derive(Clone, Copy, Debug, PartialEq, Eq)]
+pub struct KindWord {
+    pub text: &'static str,
+    pub number: Option<u16>,
 }
 
 /// How many kinds of [`DropError`] there are.
@@ -99,46 +137,117 @@ fn place_among(names: &[&str], name: &[u8]) -> Option<usize>
     names.iter().position(|other| other.as_bytes() == name)
 }
 
+// A name without a number.
+fn plain(text: &'static str) -> KindWord
+    ensures { word_text result.text.now result.number ≡ text.now }
+{
+    KindWord { text, number: None }
+}
+
+// A name with a number.
+fn numbered(text: &'static str, number: u16) -> KindWord
+    ensures { word_text result.text.now result.number ≡ text.now ++ decimal number }
+{
+    KindWord {
+        text,
+        number: Some(number),
+    }
+}
+
 impl Kind {
-    /// The word for the kind in scripts; `None` for the kinds of which scripts make no nodes.
-    pub fn word(self) -> Option<&'static str>
-        ensures { MatchOption result ((kind_entry self).word ≡ None) (λ word. (kind_entry self).word ≡ Some word.now) }
+    /// The kinds without a number of which scripts make nodes.
+    pub const PLAIN: [Kind; 14] = [
+        Kind::WorkerHandoff(HashKind::Flow),
+        Kind::WorkerHandoff(HashKind::Src),
+        Kind::WorkerHandoff(HashKind::Dst),
+        Kind::EthernetInput,
+        Kind::Ip4Input,
+        Kind::Ip4Lookup,
+        Kind::Ip4Rewrite,
+        Kind::InterfaceOutput,
+        Kind::InterfaceTx,
+        Kind::Pass,
+        Kind::EthernetDual,
+        Kind::Ip6Input,
+        Kind::Ip6Lookup,
+        Kind::Ip6Rewrite,
+    ];
+
+    /// The name of the kind.
+    pub fn name(self) -> KindWord
+        ensures { word_text result.text.now result.number ≡ (kind_entry self).name }
     {
         match self {
-            Kind::PgInput | Kind::HandoffDequeue | Kind::ErrorDrop => None,
-            Kind::WorkerHandoff(HashKind::Flow) => Some("handoff-flow"),
-            Kind::WorkerHandoff(HashKind::Src) => Some("handoff-src"),
-            Kind::WorkerHandoff(HashKind::Dst) => Some("handoff-dst"),
-            Kind::EthernetInput => Some("ethernet-input"),
-            Kind::Ip4Input => Some("ip4-input"),
-            Kind::Ip4Lookup => Some("ip4-lookup"),
-            Kind::Ip4Rewrite => Some("ip4-rewrite"),
-            Kind::InterfaceOutput => Some("interface-output"),
-            Kind::InterfaceTx => Some("interface-tx"),
-            Kind::Pass => Some("pass"),
+            Kind::PgInput => plain("pg-input"),
+            Kind::HandoffDequeue => plain("handoff-dequeue"),
+            Kind::WorkerHandoff(HashKind::Flow) => plain("handoff-flow"),
+            Kind::WorkerHandoff(HashKind::Src) => plain("handoff-src"),
+            Kind::WorkerHandoff(HashKind::Dst) => plain("handoff-dst"),
+            Kind::EthernetInput => plain("ethernet-input"),
+            Kind::Ip4Input => plain("ip4-input"),
+            Kind::Ip4Lookup => plain("ip4-lookup"),
+            Kind::Ip4Rewrite => plain("ip4-rewrite"),
+            Kind::InterfaceOutput => plain("interface-output"),
+            Kind::InterfaceTx => plain("interface-tx"),
+            Kind::ErrorDrop => plain("error-drop"),
+            Kind::Pass => plain("pass"),
+            Kind::EthernetDual => plain("ethernet-dual"),
+            Kind::Ip6Input => plain("ip6-input"),
+            Kind::Ip6Lookup => plain("ip6-lookup"),
+            Kind::Ip6Rewrite => plain("ip6-rewrite"),
+            Kind::Dot1qMatch(id) => numbered(MATCH_TEXT, id.number),
+            Kind::Dot1qPush(id) => numbered(PUSH_TEXT, id.number),
+            Kind::Dot1qRewrite(id) => numbered(REWRITE_TEXT, id.number),
+            Kind::CrossConnect(interface) => numbered(CONNECT_TEXT, u16::from(interface)),
         }
     }
 
-    // The names of the kind's slots, by slot number.
-    fn slot_names(self) -> &'static [&'static str]
-        ensures names { map (λ name. name.now) result.now ≡ slots self }
-        ensures few { length result.now ≤ 1 }
+    /// The word for the kind in scripts, which is its name; `None` for the kinds of which scripts make no nodes: those that the
+    /// start graph alone has, and a cross-connect to an interface that no graph can have.
+    pub fn word(self) -> Option<KindWord>
+        ensures { option_map (λ word. word_text word.text.now word.number) result ≡ (kind_entry self).word }
     {
         match self {
-            Kind::PgInput | Kind::Pass => &["out"],
+            Kind::PgInput | Kind::HandoffDequeue | Kind::ErrorDrop => None,
+            Kind::CrossConnect(interface) if usize::from(interface) >= MOST_INTERFACES => None,
+            _ => Some(self.name()),
+        }
+    }
+
+    /// Whether packets come into nodes of the kind by no arc.
+    pub fn is_source(self) -> bool
+        ensures { result ≡ is_source_kind self }
+    {
+        matches!(self, Kind::PgInput | Kind::HandoffDequeue)
+    }
+
+    /// The names of the kind's slots, by slot number: at most two.
+    pub fn slot_names(self) -> &'static [&'static str]
+        ensures names { map (λ name. name.now) result.now ≡ slots self }
+        ensures few { length result.now ≤ 2 }
+    {
+        match self {
+            Kind::PgInput
+            | Kind::Pass
+            | Kind::Dot1qPush(_)
+            | Kind::Dot1qRewrite(_)
+            | Kind::CrossConnect(_) => &["out"],
             Kind::WorkerHandoff(_) => &["resume"],
             Kind::EthernetInput => &["ip4"],
-            Kind::Ip4Input => &["lookup"],
-            Kind::Ip4Lookup => &["rewrite"],
-            Kind::Ip4Rewrite => &["output"],
+            Kind::EthernetDual => &["ip4", "ip6"],
+            Kind::Ip4Input | Kind::Ip6Input => &["lookup"],
+            Kind::Ip4Lookup | Kind::Ip6Lookup => &["rewrite"],
+            Kind::Ip4Rewrite | Kind::Ip6Rewrite => &["output"],
+            Kind::Dot1qMatch(_) => &["match", "else"],
             Kind::InterfaceOutput => &["tx"],
             Kind::HandoffDequeue | Kind::InterfaceTx | Kind::ErrorDrop => &[],
         }
     }
 
-    /// How many slots the kind has.
+    /// How many slots the kind has: at most two.
     pub fn slots(self) -> u8
-        ensures { result ≡ length (slots self) }
+        ensures count { result ≡ length (slots self) }
+        ensures few { result ≤ 2 }
     {
         self.slot_names().len() as u8
     }

@@ -3,13 +3,15 @@ ghost use Rattle.std.specs.Prelude.{◌≡◌, ◌<◌, ℕ, List, length, Some,
 ghost use Rattle.vg_model.specs.declared.kinds.DropError.{DropError};
 ghost use Rattle.vg_model.specs.declared.kinds.TheConstants.{ERRORS};
 ghost use Rattle.vg_model.specs.declared.kinds.TheConstants.DropError.{ALL};
-ghost use Rattle.vg_model.specs.declared.limits.TheConstants.{MOST_NODES, MOST_INTERFACES, MOST_ADJACENCIES, MOST_ROUTES, LONGEST_PACKET, MOST_LEGS};
+ghost use Rattle.vg_model.specs.declared.limits.TheConstants.{MOST_NODES, MOST_INTERFACES, MOST_ADJACENCIES, MOST_ROUTES, MOST_MEMBERS, LEAST_VLAN, MOST_VLAN, LONGEST_PACKET, FIRST_ROOM, BUFFER_SIZE, MOST_PIECES, MOST_LEGS, FRAME_SIZE};
 ghost use Rattle.vg_model.specs.declared.start.TheConstants.{PG_INPUT, HANDOFF_DEQUEUE, ERROR_DROP, FIRST_SLOT};
 ghost use Rattle.vg_model.specs.Errors.{all_errors, error_number};
 ghost use Rattle.vg_model.specs.Graph.{Graph, kind_at, pg_input, handoff_dequeue, error_drop};
 ghost use Rattle.vg_model.specs.Edit.{most_nodes, most_interfaces, most_adjacencies, most_routes};
-ghost use Rattle.vg_model.specs.Journey.{longest_packet};
-ghost use Rattle.vg_model.specs.Packet.{Packet};
+ghost use Rattle.vg_model.specs.KindWord.{least_vlan, most_vlan};
+ghost use Rattle.vg_model.specs.Members.{most_members};
+ghost use Rattle.vg_model.specs.Packet.{Packet, longest_packet, first_room, frame_size};
+ghost use Rattle.vg_model.specs.PoolBook.{buffer_size, most_pieces};
 ghost use Rattle.vg_model.specs.Visit.{Visit, ip4_visit};
 ghost use Rattle.vg_model.specs.Leg.{Way, leg, most_legs, first_slot};
 ghost use Rattle.vg_model.specs.Start.{start_graph};
@@ -24,6 +26,11 @@ pub fn start_is_valid()
 /// The visits of the IPv4 kinds keep the laws of a set of kinds.
 pub fn ip4_kinds_are_lawful()
     ensures { IsKindSet ip4_visit }
+{}
+
+/// No visit of the IPv4 kinds changes the room of a packet, so none of them makes a packet longer.
+pub fn ip4_kinds_leave_the_room()
+    ensures { (g : Graph) (n : ℕ) (p : Packet) → (ip4_visit g n p).1.room ≡ p.room }
 {}
 
 /// Every leg of a valid graph ends: under lawful visits, of a packet that may be, from a node that arcs may lead to.
@@ -44,14 +51,21 @@ pub fn errors_are_in_order()
     ensures numbered { (error : DropError) → slice_get all_errors (error_number error) ≡ Some error }
 {}
 
-/// The limits in the code are those of the definitions.
+/// The limits in the code that definitions have too are those of the definitions.
 pub fn limits_are_those_defined()
     ensures nodes { MOST_NODES ≡ most_nodes }
     ensures interfaces { MOST_INTERFACES ≡ most_interfaces }
     ensures adjacencies { MOST_ADJACENCIES ≡ most_adjacencies }
     ensures routes { MOST_ROUTES ≡ most_routes }
+    ensures members { MOST_MEMBERS ≡ most_members }
+    ensures least_vlan { LEAST_VLAN ≡ least_vlan }
+    ensures most_vlan { MOST_VLAN ≡ most_vlan }
     ensures bytes { LONGEST_PACKET ≡ longest_packet }
+    ensures room { FIRST_ROOM ≡ first_room }
+    ensures buffer { BUFFER_SIZE ≡ buffer_size }
+    ensures pieces { MOST_PIECES ≡ most_pieces }
     ensures legs { MOST_LEGS ≡ most_legs }
+    ensures frame { FRAME_SIZE ≡ frame_size }
     ensures errors { ERRORS ≡ length all_errors }
 {}
 

@@ -1,3 +1,4 @@
 pub mod UnderwayLemmas
 pub mod RewriteLemmas
 pub mod SortedLemmas
+pub mod HeadLemmas

@@ -1,8 +1,9 @@
--- A frame whose headers are written anew part by part: the two addresses, and then the IPv4 header.
-use Rattle.std.proofs.Common.{◌≡◌, ◌≢◌, ℕ, ◌+◌, ◌-◌, ◌≤◌, true, List, ◌++◌, length, take, drop, sym, ap, subst, ◌∙◌, arith, append_assoc, length-drop, length-take-le}
-use Rattle.std.specs.Prelude.{None}
+-- For `nodes::ip4_rewrite::rewrite` and `lower_header`: a frame whose headers are written anew part by part, the two addresses and then
+-- the IPv4 header.
+use Rattle.std.proofs.Common.{◌≡◌, ◌≢◌, ℕ, ◌+◌, ◌-◌, ◌≤◌, true, List, ◌++◌, length, take, drop, sym, ap, ◌∙◌, arith, append_assoc, length-drop, length-take-le}
+use Rattle.std.specs.Prelude.{None, min}
 use Rattle.std.proofs.lemmas.Bool.{ne_eqb}
-use Rattle.std.proofs.lemmas.List.{drop-drop, take-append-drop, take-append-le, drop-append-le}
+use Rattle.std.proofs.lemmas.List.{drop-drop, length-take, take-append-drop, take-append-le, drop-append-le}
 use Rattle.std.proofs.Math.Seq.{take-append-add, drop-append-add}
 use Rattle.vg_model.specs.declared.kinds.Adjacency.{Adjacency}
 use Rattle.vg_model.specs.declared.kinds.Interface.{Interface}
@@ -12,7 +13,7 @@ use Rattle.vg_model.specs.Packet.{Packet}
 use Rattle.vg_model.specs.Valid.{IsMac, IsPacket}
 use Rattle.vg_model.specs.Visit.{header_fault, header_len, time_to_live, datagram, rewritten}
 use Rattle.vg_model.proofs.Rewrites.{Passes, passes_of, length-overwritten, drop-overwritten, rewritten_is}
-use Rattle.vg_pool.specs.Contents.{Contents, written}
+use Rattle.vg_pool.specs.Contents.{Contents, head_of, written}
 
 -- the frame with its header lowered in place
 abbrev pub with_lowered : List ℕ → List ℕ
@@ -130,10 +131,11 @@ lowered_in_place f w sound four is =
     ap (λ xs. overwritten xs 22 w) (sym parts) ∙ ap (λ k. overwritten (a ++ (h ++ b)) k w) (sym at) ∙ overwritten_within a h b w 8 fits
     ∙ ap (λ x. a ++ (x ++ b)) is ∙ sym (append_assoc a (lowered h) b) ∙ ap (λ x. (a ++ lowered h) ++ x) (sym rest)
 
--- the same, where the header was read of equal bytes
-pub lowered_there : (f bytes d w : List ℕ) (n : ℕ) → header_fault (drop 14 f) ≡ None → bytes ≡ f → d ≡ drop 14 bytes → n ≡ header_len d → length w ≡ 4
-    → overwritten (take n d) 8 w ≡ lowered (take n d) → overwritten f 22 w ≡ with_lowered f
-lowered_there f bytes d w n sound same at size four is =
-    let behind : d ≡ drop 14 f = at ∙ ap (drop 14) same in
-    let part : take n d ≡ take (header_len (drop 14 f)) (drop 14 f) = ap (λ k. take k d) size ∙ ap (λ e. take (header_len e) e) behind in
-    lowered_in_place f w sound four (subst (λ h. overwritten h 8 w ≡ lowered h) part is)
+-- the part of a packet in its first buffer is as long after bytes are written
+pub as_long : (p : Packet) (at : ℕ) (w : List ℕ) → at + length w ≤ length p.bytes → length (head_of (written p at w)) ≡ length (head_of p)
+as_long p at w fits =
+    length-take (2112 - p.room) (overwritten p.bytes at w) ∙ ap (min (2112 - p.room)) (length-overwritten p.bytes at w fits) ∙ sym (length-take (2112 - p.room) p.bytes)
+
+-- which has no more bytes than the packet
+pub head_within : (p : Packet) → length (head_of p) ≤ length p.bytes
+head_within p = let size : length (head_of p) ≡ min (2112 - p.room) (length p.bytes) = length-take (2112 - p.room) p.bytes in omega (arith, size)

@@ -1,4 +1,4 @@
--- A frame under way: its first packets are visited and sorted, and the rest is as it was.
+-- For `dispatch_frame`: a frame under way: its first packets are visited and sorted, and the rest is as it was.
 use Rattle.std.proofs.Common.{◌≡◌, ◌≢◌, ℕ, zero, suc, ◌+◌, ◌<◌, ◌≤◌, true, false, cond, List, [], ◌∷◌, ◌++◌, length, refl, sym, ap, subst, ◌∙◌, arith, append_assoc, length-append}
 use Rattle.std.specs.Prelude.{Option, Some, None, is_some, option_map, option_and_then, slice_set, nat_eq}
 use Rattle.std.specs.List.{AllByRecursion, IsDistinct, cons_option}
@@ -145,13 +145,13 @@ room_left left index (Hand hash) out room =
 -- the next index of the rest is visited, and put by its step
 pub onward : (visit : NodeVisit) (old : List (Option Contents)) (frame : List ℕ) (now : List (Option Contents)) (index : ℕ) (rest : List ℕ) (out : Sorted) (c new : Contents) (step : Step)
     → IsUnderway visit old frame now (index ∷ rest) out → buffer_at now index ≡ Some c
-    → (step, new.packet) ≡ visit c.packet → new.legs ≡ c.legs
+    → (step, new.packet) ≡ visit c.packet → new.legs ≡ c.legs → new.pieces ≡ c.pieces
     → IsUnderway visit old frame (slice_set now index (Some new)) rest (put index step out)
 unfolding IsDistinct
-onward visit old frame now index rest out c new step before e visited legs =
+onward visit old frame now index rest out c new step before e visited legs chain =
     let was : buffer_at old index ≡ Some c = sym before.same.0 ∙ e in
     let is_step : step ≡ (visit c.packet).0 = ap (λ w. w.0) visited in
-    let is_new : new ≡ after_visit visit c = ap (λ packet. record { packet = packet; legs = new.legs }) (ap (λ w. w.1) visited) ∙ ap (λ l. record { packet = (visit c.packet).1; legs = l }) legs in
+    let is_new : new ≡ after_visit visit c = ap (λ packet. record new { packet = packet }) (ap (λ w. w.1) visited) ∙ ap (λ l. record new { packet = (visit c.packet).1; legs = l }) legs ∙ ap (λ n. record c { packet = (visit c.packet).1; pieces = n }) chain in
     let written : Some new ≡ option_map (after_visit visit) (buffer_at now index) = ap Some is_new ∙ ap (option_map (after_visit visit)) (sym e) in
     record {
       next = list_onward next_entry visit old index rest c out.next _ _ was (put_next index step out ∙ ap (λ s. out.next ++ option_to_list (next_entry index s)) is_step) before.next;

@@ -17,9 +17,9 @@ NodeVisit = Packet → Step × Packet
 abbrev pub step_at : NodeVisit → List (Option Contents) → ℕ → Option Step
 step_at visit memory index = option_map (λ c. (visit c.packet).0) (buffer_at memory index)
 
--- what a buffer has after the visit: the packet after it, with the same legs
+-- what a buffer has after the visit: the packet after it, with the same legs, over the same chain
 abbrev pub after_visit : NodeVisit → Contents → Contents
-after_visit visit c = record { packet = (visit c.packet).1; legs = c.legs }
+after_visit visit c = record c { packet = (visit c.packet).1 }
 
 -- the entry of each list for an index with a step, where the step names the list
 abbrev pub next_entry : ℕ → Step → Option (ℕ × ℕ)
@@ -57,7 +57,7 @@ pub record IsSortedBy (visit : NodeVisit) (memory : List (Option Contents)) (fra
   pub drops : out.drops ≡ entries drop_entry visit memory frame
   pub hands : out.hands ≡ entries hand_entry visit memory frame
 
--- each index has the packet after its visit, with the same legs; every other index has what it had; as many are live as before
+-- each index has the packet after its visit, with the same legs, over the same chain; every other index has what it had; as many are live as before
 pub record IsVisitedBy (visit : NodeVisit) (frame : List ℕ) (old new : List (Option Contents)) : Type 0 where
   pub visited : AllByRecursion (λ index. buffer_at new index ≡ option_map (after_visit visit) (buffer_at old index)) frame
   pub others : (index : ℕ) → AllByRecursion (λ other. other ≢ index) frame → buffer_at new index ≡ buffer_at old index

@@ -9,8 +9,9 @@ use vg_model::Step;
 use vg_pool::Buffer;
 
 /// What the nodes of each kind do. It has one meaning, which keeps the laws of visits: a slot over which a packet goes on is one of
-/// the node's, packets are handed over at nodes of kind `WorkerHandoff` alone, an interface on which one is transmitted is in
-/// range, and a packet keeps its number and gets no longer.
+/// the node's; packets are handed over at nodes of kind `WorkerHandoff` alone; an interface on which one is transmitted is in
+/// range; a packet keeps its number; and its length and its room together get no larger. Where these are at most 9,280 and the room is
+/// at most 128, the room stays at most 128.
 pub trait KindSet: Copy {
     /// What a visit of a node makes of a packet.
     ghost meaning: { Visit };
@@ -19,7 +20,8 @@ pub trait KindSet: Copy {
     fn visit(&self, fork: &Fork, node: u16, buffer: &mut Buffer) -> Step
         requires target { IsTarget (kind_at fork.now.graph node) }
         ensures visited { (result, buffer.new.packet) ≡ meaning fork.now.graph node buffer.old.packet }
-        ensures legs { buffer.new.legs ≡ buffer.old.legs };
+        ensures legs { buffer.new.legs ≡ buffer.old.legs }
+        ensures chain { buffer.new.pieces ≡ buffer.old.pieces };
 
     /// The laws of visits.
     ghost lawful: { IsKindSet meaning };

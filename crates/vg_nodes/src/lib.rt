@@ -7,9 +7,12 @@
 
 pub mod dispatch;
 pub mod entries;
+mod heads;
 pub mod ip4;
 pub mod kinds;
 pub mod laws;
+mod nodes;
+pub mod parts;
 pub mod sorted;
 
 pub use dispatch::dispatch_frame;

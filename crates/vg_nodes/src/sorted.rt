@@ -21,9 +21,13 @@ pub type HandList = Entries<u32>;
 /// The indexes of a frame after a dispatch, each in the list that its packet's step names.
 #[derive(Drop)]
 pub struct Sorted {
+    /// Those whose packets go on.
     pub next: NextList,
+    /// Those whose packets are transmitted.
     pub tx: TxList,
+    /// Those whose packets the node drops.
     pub drops: DropList,
+    /// Those whose packets are to be handed over.
     pub hands: HandList,
 }
 

@@ -42,8 +42,8 @@ fn key_of(kind: HashKind, source: u32, destination: u32) -> u32
     }
 }
 
-/// The key's upper bits mixed into its lower ones.
-fn mixed(key: u32) -> u32
+/// The hash of a 32-bit key: its upper bits mixed into its lower ones.
+pub fn mixed(key: u32) -> u32
     ensures { result ≡ mixed_key key }
 {
     let half = key ^ (key >> 16);

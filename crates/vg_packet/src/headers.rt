@@ -1,5 +1,5 @@
 //! The fields of a frame's headers that a router reads and writes (RFC 791, section 3.1).
-ghost use Rattle.std.specs.Prelude.{◌≡◌, ◌≤◌, drop, length};
+ghost use Rattle.std.specs.Prelude.{◌≡◌, ◌≤◌, drop, length, min};
 ghost use Rattle.vg_model.specs.Visit as visits;
 ghost use Rattle.vg_model.specs.Visit.{ethernet_len};
 
@@ -78,28 +78,30 @@ pub fn destination(datagram: &[u8]) -> u32
     u32_at(datagram, DESTINATION)
 }
 
-/// The first check of a datagram's IPv4 header that fails (RFC 1812, section 5.2.2).
-pub fn header_fault(datagram: &[u8]) -> Option<DropError>
-    ensures { result ≡ visits.header_fault datagram.now }
+/// The first check that fails of the IPv4 header of a datagram of `len` bytes that begins with these (RFC 1812, section 5.2.2). They are
+/// at least 60, the most that a header has, or all of the datagram.
+pub fn header_fault(head: &[u8], len: usize) -> Option<DropError>
+    requires { min len 60 ≤ length head.now }
+    ensures { result ≡ visits.fault_within head.now len }
 {
-    if datagram.len() < LEAST_HEADER {
+    if len < LEAST_HEADER {
         return Some(DropError::Short);
     }
-    if version(datagram) != 4 {
+    if version(head) != 4 {
         return Some(DropError::BadVersion);
     }
-    let header = header_len(datagram);
-    if header < LEAST_HEADER || header > datagram.len() {
+    let header = header_len(head);
+    if header < LEAST_HEADER || header > len {
         return Some(DropError::BadHeaderLength);
     }
-    let total = usize::from(total_len(datagram));
-    if total < header || total > datagram.len() {
+    let total = usize::from(total_len(head));
+    if total < header || total > len {
         return Some(DropError::BadLength);
     }
-    if !verify_header(&datagram[..header]) {
+    if !verify_header(&head[..header]) {
         return Some(DropError::BadChecksum);
     }
-    if time_to_live(datagram) == 0 {
+    if time_to_live(head) == 0 {
         return Some(DropError::TtlZero);
     }
     None

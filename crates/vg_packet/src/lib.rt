@@ -11,4 +11,4 @@ pub mod laws;
 
 pub use checksums::{TIME_TO_LIVE, lower_ttl, lowered_ttl, verify_header};
 pub use fields::{u16_at, u32_at};
-pub use hashes::flow_hash;
+pub use hashes::{flow_hash, mixed};

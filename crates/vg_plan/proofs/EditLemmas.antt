@@ -1,5 +1,5 @@
 -- For `edit_graph`, `set_route` and `remove_route` of a master: edits of a whole graph, by its lists and its table of routes.
-use Rattle.std.proofs.Common.{◌≡◌, ℕ, zero, suc, ◌≤◌, ◌||◌, ◌==◌, Bool, true, false, List, [], ◌∷◌, length, refl, sym, ap, subst, ◌∙◌, inl, inr, arith}
+use Rattle.std.proofs.Common.{◌≡◌, ℕ, zero, suc, ◌<◌, ◌≤◌, ◌||◌, ◌==◌, Bool, true, false, List, [], ◌∷◌, ◌++◌, drop, length, refl, sym, ap, subst, ◌∙◌, inl, inr, arith}
 use Rattle.std.specs.Prelude.{Option, Some, None, ok_or, Result, Ok, Err, IfErr, IsErr, IsOk, MatchOption, OnErr, IfOk, remove, replicate, is_some, slice_get, slice_set}
 use Rattle.std.specs.List.{AllByRecursion, list_any}
 use Rattle.vg_model.specs.declared.edits.Edit.{Edit}
@@ -8,15 +8,15 @@ use Rattle.vg_model.specs.declared.kinds.Kind.{Kind}
 use Rattle.vg_model.specs.declared.kinds.Interface.{Interface}
 use Rattle.vg_model.specs.declared.names.Mac.{Mac}
 use Rattle.vg_model.specs.declared.routes.Prefix.{Prefix}
+use Rattle.vg_model.specs.declared.routes.Prefix6.{Prefix6}
 use Rattle.vg_model.specs.declared.routes.RouteTo.{RouteTo}
 use Rattle.vg_model.specs.declared.routes.RouteTo.TheVariants as routes
 use Rattle.vg_model.specs.declared.kinds.Adjacency.{Adjacency}
-use Rattle.vg_model.specs.declared.routes.RouteWord.{RouteWord}
-use Rattle.vg_model.specs.declared.routes.RouteWord.TheVariants as words
-use Rattle.vg_model.specs.Graph.{Graph, Node, next_nodes, slots, error_drop}
+use Rattle.vg_model.specs.Graph.{Graph, Node, next_nodes, slots, error_drop, is_source}
 use Rattle.vg_model.specs.Valid.{IsRouteWithin}
-use Rattle.vg_model.specs.Edit.{Cause, Edited, ◌>>=◌, most_interfaces, most_nodes, most_adjacencies, most_routes, node_named, interface_named, adjacency_named, place_of, placed, refused_if, is_source}
-use Rattle.vg_model.specs.Edit.{DoubleName, UnknownNode, UnknownSlot, BadTarget, Cycle, UnknownInterface, leads, with_interface, with_node, with_arc, with_adjacency, UnknownAdjacency, target_of, route_place, apply}
+use Rattle.vg_model.specs.Edit.{Cause, Edited, ◌>>=◌, most_interfaces, most_nodes, most_adjacencies, most_routes, node_named, interface_named, adjacency_named, place_of, placed, refused_if, place_in}
+use Rattle.vg_model.specs.Edit.{DoubleName, UnknownNode, UnknownSlot, BadTarget, Cycle, UnknownInterface, leads, with_interface, with_node, with_arc, with_adjacency, members_of, apply}
+use Rattle.vg_model.specs.Route.{PrefixKind, RoutesOf, ip4, ip6}
 use Rattle.vg_script.specs.declared.errors.ScriptCause.{ScriptCause}
 use Rattle.vg_script.specs.declared.errors.ScriptCause.TheVariants as script_causes
 use Rattle.vg_script.specs.Reading.{refused}
@@ -27,9 +27,10 @@ use Rattle.vg_graph.specs.View.{IsKept}
 use Rattle.vg_graph.proofs.ListLemmas.{all_weaken, IsPlaced, placed_is, placed_all, placed_more}
 use Rattle.vg_fib.specs.declared.table.FibError.{FibError}
 use Rattle.vg_fib.specs.declared.table.NoSuchRoute.{NoSuchRoute}
-use Rattle.vg_fib.specs.Table.{Routes, IsTable}
+use Rattle.vg_fib.specs.Table.{Routes, Routes6, IsTable}
+use Rattle.vg_fib.proofs.PrefixLemmas.{ArePrefixes, are4, are6}
 use Rattle.vg_fib.proofs.TableLemmas.{table_set, table_push, table_remove, place_within}
-use Rattle.vg_plan.specs.Routed.{with_routes}
+use Rattle.vg_model.specs.Graph.{with_routes}
 use Rattle.vg_plan.specs.Plan.{IsGeneration}
 use Rattle.vg_plan.specs.Refusals.{IsCauseOf}
 
@@ -88,36 +89,38 @@ arc_made : (f : Graph → Graph) (g : Graph) (search : ℕ → ℕ → Bool) (fi
 arc_made f g search finish from slot to = simp made_then
 
 -- walks over arcs don't look at routes
-leads_same : (g : Graph) (r : Routes) (arcs from to : ℕ) → leads (with_routes g r) arcs from to ≡ leads g arcs from to
-leads_same g r zero from to = refl
-leads_same g r (suc arcs) from to = λ i. (from == to) || list_any (λ mid. leads_same g r arcs mid to i) (next_nodes g from)
+leads_same : (g : Graph) (r : Routes) (s : Routes6) (arcs from to : ℕ) → leads (with_routes g r s) arcs from to ≡ leads g arcs from to
+leads_same g r s zero from to = refl
+leads_same g r s (suc arcs) from to = λ i. (from == to) || list_any (λ mid. leads_same g r s arcs mid to i) (next_nodes g from)
 
-arc_onto : (g : Graph) (r : Routes) (from slot to : List ℕ) → with_arc (with_routes g r) from slot to ≡ made (λ h. with_routes h r) (with_arc g from slot to)
-arc_onto g r from slot to =
-    (λ i. arc_by g (λ m n. leads_same g r (length g.nodes) m n i) (λ nodes. record (with_routes g r) { nodes = nodes }) from slot to)
-    ∙ arc_made (λ h. with_routes h r) g (λ m n. leads g (length g.nodes) m n) (λ nodes. record g { nodes = nodes }) from slot to
+arc_onto : (g : Graph) (r : Routes) (s : Routes6) (from slot to : List ℕ) → with_arc (with_routes g r s) from slot to ≡ made (λ h. with_routes h r s) (with_arc g from slot to)
+arc_onto g r s from slot to =
+    (λ i. arc_by g (λ m n. leads_same g r s (length g.nodes) m n i) (λ nodes. record (with_routes g r s) { nodes = nodes }) from slot to)
+    ∙ arc_made (λ h. with_routes h r s) g (λ m n. leads g (length g.nodes) m n) (λ nodes. record g { nodes = nodes }) from slot to
 
-adjacency_onto : (g : Graph) (r : Routes) (name interface : List ℕ) (mac : Mac) → with_adjacency (with_routes g r) name interface mac ≡ made (λ h. with_routes h r) (with_adjacency g name interface mac)
-adjacency_onto g r name interface mac = by_number (interface_named g interface)
+adjacency_onto : (g : Graph) (r : Routes) (s : Routes6) (name interface : List ℕ) (mac : Mac) → with_adjacency (with_routes g r s) name interface mac ≡ made (λ h. with_routes h r s) (with_adjacency g name interface mac)
+adjacency_onto g r s name interface mac = by_number (interface_named g interface)
   where
-    by_room : (list : Result (List Adjacency) Cause) → (list >>= (λ list. Ok (record (with_routes g r) { adjacencies = list }))) ≡ made (λ h. with_routes h r) (list >>= (λ list. Ok (record g { adjacencies = list })))
+    by_room : (list : Result (List Adjacency) Cause) → (list >>= (λ list. Ok (record (with_routes g r s) { adjacencies = list }))) ≡ made (λ h. with_routes h r s) (list >>= (λ list. Ok (record g { adjacencies = list })))
     by_room (Ok list) = refl
     by_room (Err cause) = refl
 
     by_number : (number : Option ℕ)
-        → (ok_or number UnknownInterface >>= (λ i. placed most_adjacencies (adjacency_named g name) (record { name = name; interface = i; mac = mac }) g.adjacencies >>= (λ list. Ok (record (with_routes g r) { adjacencies = list }))))
-        ≡ made (λ h. with_routes h r) (ok_or number UnknownInterface >>= (λ i. placed most_adjacencies (adjacency_named g name) (record { name = name; interface = i; mac = mac }) g.adjacencies >>= (λ list. Ok (record g { adjacencies = list }))))
+        → (ok_or number UnknownInterface >>= (λ i. placed most_adjacencies (adjacency_named g name) (record { name = name; interface = i; mac = mac }) g.adjacencies >>= (λ list. Ok (record (with_routes g r s) { adjacencies = list }))))
+        ≡ made (λ h. with_routes h r s) (ok_or number UnknownInterface >>= (λ i. placed most_adjacencies (adjacency_named g name) (record { name = name; interface = i; mac = mac }) g.adjacencies >>= (λ list. Ok (record g { adjacencies = list }))))
     by_number None = refl
     by_number (Some i) = by_room (placed most_adjacencies (adjacency_named g name) (record { name = name; interface = i; mac = mac }) g.adjacencies)
 
 -- an edit of a graph's lists is the edit of the whole graph
-pub apply_onto : (g : Graph) (r : Routes) (edit : Edit) → IsGraphEdit edit → apply (with_routes g r) edit ≡ made (λ h. with_routes h r) (apply g edit)
-apply_onto g r (edits.Interface name mac mtu up filter) h = interface_made (λ h. with_routes h r) g (record { name = name; mac = mac; mtu = mtu; up = up; filter = filter })
-apply_onto g r (edits.Node name kind) h = node_made (λ h. with_routes h r) g name kind
-apply_onto g r (edits.Arc from slot to) h = arc_onto g r from slot to
-apply_onto g r (edits.Adjacency name interface mac) h = adjacency_onto g r name interface mac
-apply_onto g r (edits.Route prefix to) h = absurd h
-apply_onto g r (edits.Unroute prefix) h = absurd h
+pub apply_onto : (g : Graph) (r : Routes) (s : Routes6) (edit : Edit) → IsGraphEdit edit → apply (with_routes g r s) edit ≡ made (λ h. with_routes h r s) (apply g edit)
+apply_onto g r s (edits.Interface name mac mtu up filter) h = interface_made (λ h. with_routes h r s) g (record { name = name; mac = mac; mtu = mtu; up = up; filter = filter })
+apply_onto g r s (edits.Node name kind) h = node_made (λ h. with_routes h r s) g name kind
+apply_onto g r s (edits.Arc from slot to) h = arc_onto g r s from slot to
+apply_onto g r s (edits.Adjacency name interface mac) h = adjacency_onto g r s name interface mac
+apply_onto g r s (edits.Route prefix to) h = absurd h
+apply_onto g r s (edits.Unroute prefix) h = absurd h
+apply_onto g r s (edits.Route6 prefix to) h = absurd h
+apply_onto g r s (edits.Unroute6 prefix) h = absurd h
 
 -- no adjacency is lost
 abbrev Grows : Graph → Graph → Type 0
@@ -159,14 +162,24 @@ adjacencies_grow g after (edits.Arc from slot to) h e =
 adjacencies_grow g after (edits.Adjacency name interface mac) h e = adjacency_grows g after name interface mac e
 adjacencies_grow g after (edits.Route prefix to) h e = absurd h
 adjacencies_grow g after (edits.Unroute prefix) h e = absurd h
+adjacencies_grow g after (edits.Route6 prefix to) h e = absurd h
+adjacencies_grow g after (edits.Unroute6 prefix) h e = absurd h
 
--- the routes of a generation are a table
-pub table_of : (g : Graph) → IsGeneration g → IsTable g.routes
+-- a list of routes that lead within a graph of so many adjacencies
+abbrev pub AllWithin : {P : Type 0} → ℕ → RoutesOf P → Type 0
+AllWithin adjacencies routes = AllByRecursion (λ route. IsRouteWithin adjacencies route.1) routes
+
+-- the routes of a generation are tables
+pub table_of : (g : Graph) → IsGeneration g → IsTable ip4 g.routes
 table_of g generation = record { one_route_each = generation.valid.one_route; few = generation.few_routes }
 
+pub table6_of : (g : Graph) → IsGeneration g → IsTable ip6 g.routes6
+table6_of g generation = record { one_route_each = generation.valid.one_route6; few = generation.few_routes6 }
+
 -- other routes, which lead within the graph, leave a generation
-pub rerouted : (g : Graph) (r : Routes) → IsGeneration g → IsTable r → AllByRecursion (λ route. IsRouteWithin (length g.adjacencies) route.1) r → IsGeneration (with_routes g r)
-rerouted g r generation table within = record {
+pub rerouted : (g : Graph) (r : Routes) (s : Routes6) → IsGeneration g → IsTable ip4 r → AllWithin (length g.adjacencies) r
+    → IsTable ip6 s → AllWithin (length g.adjacencies) s → IsGeneration (with_routes g r s)
+rerouted g r s generation table within table6 within6 = record {
   valid = record {
     source = generation.valid.source;
     dequeue = generation.valid.dequeue;
@@ -176,10 +189,12 @@ rerouted g r generation table within = record {
     interfaces = generation.valid.interfaces;
     adjacencies = generation.valid.adjacencies;
     routes = within;
+    routes6 = within6;
     node_names = generation.valid.node_names;
     interface_names = generation.valid.interface_names;
     adjacency_names = generation.valid.adjacency_names;
     one_route = table.one_route_each;
+    one_route6 = table6.one_route_each;
     interface_macs = generation.valid.interface_macs;
     adjacency_macs = generation.valid.adjacency_macs;
     acyclic = generation.valid.acyclic;
@@ -188,7 +203,19 @@ rerouted g r generation table within = record {
   few_interfaces = generation.few_interfaces;
   few_adjacencies = generation.few_adjacencies;
   few_routes = table.few;
+  few_routes6 = table6.few;
 }
+
+-- a generation with other IPv4 routes, and with other IPv6 routes
+pub rerouted4 : (g : Graph) (r : Routes) (s : Routes6) → IsGeneration (with_routes g r s) → (others : Routes) → IsTable ip4 others
+    → AllWithin (length g.adjacencies) others → IsGeneration (with_routes g others s)
+rerouted4 g r s generation others table within =
+    rerouted (with_routes g r s) others s generation table within (table6_of (with_routes g r s) generation) generation.valid.routes6
+
+pub rerouted6 : (g : Graph) (r : Routes) (s : Routes6) → IsGeneration (with_routes g r s) → (others : Routes6) → IsTable ip6 others
+    → AllWithin (length g.adjacencies) others → IsGeneration (with_routes g r others)
+rerouted6 g r s generation others table within =
+    rerouted (with_routes g r s) r others generation (table_of (with_routes g r s) generation) generation.valid.routes table within
 
 -- a graph without routes is a generation
 kept_generation : (g : Graph) → IsKept g → IsGeneration g
@@ -198,6 +225,7 @@ kept_generation g kept = record {
   few_interfaces = kept.few_interfaces;
   few_adjacencies = kept.few_adjacencies;
   few_routes = omega (arith, ap length kept.no_routes);
+  few_routes6 = omega (arith, ap length kept.no_routes6);
 }
 
 -- what holds of each route holds of each that is left
@@ -207,63 +235,89 @@ all_remove P [] (suc i) all = tt
 all_remove P (x ∷ xs) zero all = all.1
 all_remove P (x ∷ xs) (suc i) all = (all.0, all_remove P xs i all.1)
 
+-- a table of either kind, once a route is set in it or taken out: what holds of tables whose routes lead within a graph holds again
+module _ {P : Type 0} {kind : PrefixKind P} (are : ArePrefixes kind) (adjacencies : ℕ) (Good : RoutesOf P → Type 0)
+    (good : (r : RoutesOf P) → IsTable kind r → AllWithin adjacencies r → Good r) where
+  pub good_removed : (r after : RoutesOf P) (p : P) (result : Result (Unit {0}) NoSuchRoute) → IsTable kind r → AllWithin adjacencies r → Good r
+      → MatchOption (place_in kind p r) (IsErr result × (after ≡ r)) (λ place. IsOk result × (after ≡ remove r place)) → Good after
+  good_removed r after p result table within is h = by_place (place_in kind p r) refl h
+    where
+      by_place : (o : Option ℕ) → place_in kind p r ≡ o → MatchOption o (IsErr result × (after ≡ r)) (λ place. IsOk result × (after ≡ remove r place)) → Good after
+      by_place None e h = subst Good (sym h.1) is
+      by_place (Some place) e h =
+          subst Good (sym h.1) (good (remove r place) (table_remove are r place (p, routes.Local) table (place_within are p r place e))
+          (all_remove (λ route. IsRouteWithin adjacencies route.1) r place within))
+
+  pub good_set : (r after : RoutesOf P) (p : P) (to : RouteTo) (result : Result (Unit {0}) FibError) → IsTable kind r → AllWithin adjacencies r → Good r
+      → IsRouteWithin adjacencies to → IfOk result (λ _. placed most_routes (place_in kind p r) (p, to) r ≡ Ok after) → IfErr result (λ _. after ≡ r) → Good after
+  good_set r after p to (Err error) table within is leads_within set same = subst Good (sym same) is
+  good_set r after p to (Ok done) table within is leads_within set same = by_place (placed_is most_routes (place_in kind p r) (p, to) r after set)
+    where
+      by_place : IsPlaced most_routes (place_in kind p r) (p, to) r after → Good after
+      by_place placed =
+          good after (by_table placed) (placed_all (λ route. IsRouteWithin adjacencies route.1) most_routes (place_in kind p r) (p, to) r after placed within leads_within)
+        where
+          by_table : IsPlaced most_routes (place_in kind p r) (p, to) r after → IsTable kind after
+          by_table (inl t) = subst (IsTable kind) (sym t.2) (table_set are p to r t.0 table t.1)
+          by_table (inr t) = subst (IsTable kind) (sym t.2) (table_push are p to r table t.0 t.1)
+
 -- after a route is taken out there is a generation again
-pub unrouted_generation : (g : Graph) (r after : Routes) (p : Prefix) (result : Result (Unit {0}) NoSuchRoute) → IsGeneration (with_routes g r)
-    → MatchOption (route_place p r) (IsErr result × (after ≡ r)) (λ place. IsOk result × (after ≡ remove r place)) → IsGeneration (with_routes g after)
-unrouted_generation g r after p result generation h = by_place (route_place p r) refl h
-  where
-    by_place : (o : Option ℕ) → route_place p r ≡ o → MatchOption o (IsErr result × (after ≡ r)) (λ place. IsOk result × (after ≡ remove r place)) → IsGeneration (with_routes g after)
-    by_place None e h = subst (λ l. IsGeneration (with_routes g l)) (sym h.1) generation
-    by_place (Some place) e h =
-        let table : IsTable (remove r place) = table_remove r place (p, routes.Local) (table_of (with_routes g r) generation) (place_within p r place e) in
-        subst (λ l. IsGeneration (with_routes g l)) (sym h.1)
-        (rerouted (with_routes g r) (remove r place) generation table (all_remove (λ route. IsRouteWithin (length g.adjacencies) route.1) r place generation.valid.routes))
+pub unrouted_generation : (g : Graph) (r after : Routes) (s : Routes6) (p : Prefix) (result : Result (Unit {0}) NoSuchRoute) → IsGeneration (with_routes g r s)
+    → MatchOption (place_in ip4 p r) (IsErr result × (after ≡ r)) (λ place. IsOk result × (after ≡ remove r place)) → IsGeneration (with_routes g after s)
+unrouted_generation g r after s p result generation h =
+    good_removed are4 (length g.adjacencies) (λ r. IsGeneration (with_routes g r s)) (rerouted4 g r s generation) r after p result
+    (table_of (with_routes g r s) generation) generation.valid.routes generation h
+
+pub unrouted6_generation : (g : Graph) (r : Routes) (s after : Routes6) (p : Prefix6) (result : Result (Unit {0}) NoSuchRoute) → IsGeneration (with_routes g r s)
+    → MatchOption (place_in ip6 p s) (IsErr result × (after ≡ s)) (λ place. IsOk result × (after ≡ remove s place)) → IsGeneration (with_routes g r after)
+unrouted6_generation g r s after p result generation h =
+    good_removed are6 (length g.adjacencies) (λ s. IsGeneration (with_routes g r s)) (rerouted6 g r s generation) s after p result
+    (table6_of (with_routes g r s) generation) generation.valid.routes6 generation h
 
 -- after a route is set there is a generation again
-pub set_generation : (g : Graph) (r after : Routes) (p : Prefix) (to : RouteTo) (result : Result (Unit {0}) FibError) → IsGeneration (with_routes g r) → IsRouteWithin (length g.adjacencies) to
-    → IfOk result (λ _. placed most_routes (route_place p r) (p, to) r ≡ Ok after) → IfErr result (λ _. after ≡ r) → IsGeneration (with_routes g after)
-set_generation g r after p to (Err error) generation within set same = subst (λ l. IsGeneration (with_routes g l)) (sym same) generation
-set_generation g r after p to (Ok done) generation within set same = by_place (placed_is most_routes (route_place p r) (p, to) r after set)
-  where
-    by_place : IsPlaced most_routes (route_place p r) (p, to) r after → IsGeneration (with_routes g after)
-    by_place placed =
-        rerouted (with_routes g r) after generation (by_table placed)
-        (placed_all (λ route. IsRouteWithin (length g.adjacencies) route.1) most_routes (route_place p r) (p, to) r after placed generation.valid.routes within)
-      where
-        by_table : IsPlaced most_routes (route_place p r) (p, to) r after → IsTable after
-        by_table (inl t) = subst IsTable (sym t.2) (table_set p to r t.0 (table_of (with_routes g r) generation) t.1)
-        by_table (inr t) = subst IsTable (sym t.2) (table_push p to r (table_of (with_routes g r) generation) t.0 t.1)
+pub set_generation : (g : Graph) (r after : Routes) (s : Routes6) (p : Prefix) (to : RouteTo) (result : Result (Unit {0}) FibError) → IsGeneration (with_routes g r s)
+    → IsRouteWithin (length g.adjacencies) to
+    → IfOk result (λ _. placed most_routes (place_in ip4 p r) (p, to) r ≡ Ok after) → IfErr result (λ _. after ≡ r) → IsGeneration (with_routes g after s)
+set_generation g r after s p to result generation within set same =
+    good_set are4 (length g.adjacencies) (λ r. IsGeneration (with_routes g r s)) (rerouted4 g r s generation) r after p to result
+    (table_of (with_routes g r s) generation) generation.valid.routes generation within set same
 
--- no adjacency of the word's name is there
-pub unknown_adjacency : (g whole : Graph) (r : Routes) (word : RouteWord) (name : List ℕ) → with_routes g r ≡ whole → word ≡ words.Via name → adjacency_named g name ≡ None
-    → target_of whole word ≡ Err UnknownAdjacency
-unknown_adjacency g whole r word name seen is none =
-    ap (target_of whole) is ∙ (ap (λ w. target_of w (words.Via name)) (sym seen) ∙ ap (λ o. (ok_or o UnknownAdjacency >>= (λ a. Ok (routes.Via a)))) none)
+pub set6_generation : (g : Graph) (r : Routes) (s after : Routes6) (p : Prefix6) (to : RouteTo) (result : Result (Unit {0}) FibError) → IsGeneration (with_routes g r s)
+    → IsRouteWithin (length g.adjacencies) to
+    → IfOk result (λ _. placed most_routes (place_in ip6 p s) (p, to) s ≡ Ok after) → IfErr result (λ _. after ≡ s) → IsGeneration (with_routes g r after)
+set6_generation g r s after p to result generation within set same =
+    good_set are6 (length g.adjacencies) (λ s. IsGeneration (with_routes g r s)) (rerouted6 g r s generation) s after p to result
+    (table6_of (with_routes g r s) generation) generation.valid.routes6 generation within set same
+
+-- what the names so far come to: the numbers that are known, and those of the names that are left
+abbrev pub AreSoFar : Graph → List (List ℕ) → ℕ → List ℕ → Type 0
+AreSoFar g names i members = members_of g names ≡ (members_of g (drop i names) >>= (λ others. Ok (members ++ others)))
 
 -- after an edit of a graph's lists there is a generation again
-pub edited_generation : (g after : Graph) (r : Routes) (edit : Edit) (result : Result (Unit {0}) GraphError) → IsGraphEdit edit → IsGeneration (with_routes g r) → IsKept after
-    → Answers (apply g edit) after result → OnErr result (after ≡ g) → IsGeneration (with_routes after r)
-edited_generation g after r edit (Ok done) h generation kept answer same =
+pub edited_generation : (g after : Graph) (r : Routes) (s : Routes6) (edit : Edit) (result : Result (Unit {0}) GraphError) → IsGraphEdit edit → IsGeneration (with_routes g r s)
+    → IsKept after → Answers (apply g edit) after result → OnErr result (after ≡ g) → IsGeneration (with_routes after r s)
+edited_generation g after r s edit (Ok done) h generation kept answer same =
     let more : length g.adjacencies ≤ length after.adjacencies = adjacencies_grow g after edit h answer in
-    rerouted after r (kept_generation after kept) (table_of (with_routes g r) generation)
-    (all_weaken (λ route. IsRouteWithin (length g.adjacencies) route.1) (λ route. IsRouteWithin (length after.adjacencies) route.1) (λ route. further route.1 more) r generation.valid.routes)
+    rerouted after r s (kept_generation after kept)
+    (table_of (with_routes g r s) generation) (all_weaken (λ route. IsRouteWithin (length g.adjacencies) route.1) (λ route. IsRouteWithin (length after.adjacencies) route.1) (λ route. further route.1 more) r generation.valid.routes)
+    (table6_of (with_routes g r s) generation) (all_weaken (λ route. IsRouteWithin (length g.adjacencies) route.1) (λ route. IsRouteWithin (length after.adjacencies) route.1) (λ route. further route.1 more) s generation.valid.routes6)
   where
     further : (to : RouteTo) → length g.adjacencies ≤ length after.adjacencies → IsRouteWithin (length g.adjacencies) to → IsRouteWithin (length after.adjacencies) to
-    further (routes.Via a) more within = omega arith
+    further (routes.Via members) more within = (within.0, all_weaken (λ a. a < length g.adjacencies) (λ a. a < length after.adjacencies) (λ a h. omega (arith, h, more)) members within.1)
     further routes.Local more within = tt
     further routes.Drop more within = tt
-edited_generation g after r edit (Err error) h generation kept answer same = subst (λ h. IsGeneration (with_routes h r)) (sym same) generation
+edited_generation g after r s edit (Err error) h generation kept answer same = subst (λ h. IsGeneration (with_routes h r s)) (sym same) generation
 
 -- what the graph answers, for the whole graph
-pub edited_done : (g after whole : Graph) (r : Routes) (edit : Edit) → with_routes g r ≡ whole → IsGraphEdit edit → apply g edit ≡ Ok after
-    → apply whole edit ≡ Ok (with_routes after r)
-edited_done g after whole r edit seen h e = ap (λ w. apply w edit) (sym seen) ∙ (apply_onto g r edit h ∙ ap (made (λ h. with_routes h r)) e)
+pub edited_done : (g after whole : Graph) (r : Routes) (s : Routes6) (edit : Edit) → with_routes g r s ≡ whole → IsGraphEdit edit → apply g edit ≡ Ok after
+    → apply whole edit ≡ Ok (with_routes after r s)
+edited_done g after whole r s edit seen h e = ap (λ w. apply w edit) (sym seen) ∙ (apply_onto g r s edit h ∙ ap (made (λ h. with_routes h r s)) e)
 
-pub edited_refused : (g whole : Graph) (r : Routes) (edit : Edit) (error : GraphError) (cause : ScriptCause) → with_routes g r ≡ whole → IsGraphEdit edit → IsRefusedBy (apply g edit) error
+pub edited_refused : (g whole : Graph) (r : Routes) (s : Routes6) (edit : Edit) (error : GraphError) (cause : ScriptCause) → with_routes g r s ≡ whole → IsGraphEdit edit → IsRefusedBy (apply g edit) error
     → MatchOption (cause_of_graph error) (cause ≡ script_causes.Memory) (λ why. cause ≡ cause_of why) → IsCauseOf (apply whole edit) cause
-edited_refused g whole r edit error cause seen h refused named = by_cause (cause_of_graph error) refused named
+edited_refused g whole r s edit error cause seen h refused named = by_cause (cause_of_graph error) refused named
   where
     by_cause : (o : Option Cause) → MatchOption o (IsOk (apply g edit)) (λ why. apply g edit ≡ Err why)
         → MatchOption o (cause ≡ script_causes.Memory) (λ why. cause ≡ cause_of why) → IsCauseOf (apply whole edit) cause
     by_cause None refused named = λ other. absurd (other named)
-    by_cause (Some why) refused named = λ other. (why, ap (λ w. apply w edit) (sym seen) ∙ (apply_onto g r edit h ∙ ap (made (λ h. with_routes h r)) refused), named)
+    by_cause (Some why) refused named = λ other. (why, ap (λ w. apply w edit) (sym seen) ∙ (apply_onto g r s edit h ∙ ap (made (λ h. with_routes h r s)) refused), named)

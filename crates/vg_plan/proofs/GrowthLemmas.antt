@@ -6,30 +6,37 @@ use Rattle.std.proofs.lemmas.Option.{same_Some, slice_get_within}
 use Rattle.vg_model.specs.declared.edits.Edit.{Edit}
 use Rattle.vg_model.specs.declared.edits.Edit.TheVariants as edits
 use Rattle.vg_model.specs.declared.edits.EditLine.{EditLine}
-use Rattle.vg_model.specs.Graph.{Graph, Node, slots, error_drop}
+use Rattle.vg_model.specs.Graph.{Graph, Node, slots, error_drop, is_source}
 use Rattle.vg_model.specs.declared.kinds.Adjacency.{Adjacency}
 use Rattle.vg_model.specs.declared.kinds.Interface.{Interface}
 use Rattle.vg_model.specs.declared.kinds.Kind.{Kind}
 use Rattle.vg_model.specs.declared.names.Mac.{Mac}
 use Rattle.vg_model.specs.declared.routes.Prefix.{Prefix}
+use Rattle.vg_model.specs.declared.routes.Prefix6.{Prefix6}
 use Rattle.vg_model.specs.declared.routes.RouteTo.{RouteTo}
 use Rattle.vg_model.specs.declared.routes.RouteWord.{RouteWord}
 use Rattle.vg_model.specs.Growth.{Grows}
 use Rattle.vg_model.specs.Edit.{Cause, Edited, ◌>>=◌, TooMany, DoubleName, UnknownNode, UnknownSlot, BadTarget, Cycle, UnknownInterface, NoRoute, most_nodes, most_interfaces, most_adjacencies, most_routes}
-use Rattle.vg_model.specs.Edit.{node_named, interface_named, adjacency_named, place_of, route_place, target_of, refused_if, is_source, leads, placed, with_interface, with_node, with_arc, with_adjacency, with_route, without_route, apply, apply_all}
+use Rattle.vg_model.specs.Edit.{node_named, interface_named, adjacency_named, place_of, route_place, route6_place, target_of, refused_if, leads, placed, with_interface, with_node, with_arc, with_adjacency, with_route, without_route, with_route6, without_route6, apply, apply_all}
 use Rattle.vg_script.specs.Events.{events}
 use Rattle.vg_plan.specs.Plan.{Planned, IsPlan}
 use Rattle.vg_plan.proofs.GenerationLemmas.{length_graphs, all_made}
 
--- what an edit makes of the graph, where it makes one
-abbrev MayGrow : Graph → Edited → Type 0
-MayGrow g (Ok after) = Grows g after
-MayGrow g (Err cause) = Unit {0}
+-- the graph that an edit makes, where it makes one
+abbrev pub IfMade : (Graph → Type 0) → Edited → Type 0
+IfMade Q (Ok after) = Q after
+IfMade Q (Err cause) = Unit {0}
 
--- what follows a value grows where it does for each value
+abbrev MayGrow : Graph → Edited → Type 0
+MayGrow g edited = IfMade (Grows g) edited
+
+-- what follows a value makes such a graph where it does for each value
+pub then_made : {X : Type 0} (Q : Graph → Type 0) (a : Result X Cause) (f : X → Edited) → ((x : X) → a ≡ Ok x → IfMade Q (f x)) → IfMade Q (a >>= f)
+then_made Q (Ok x) f each = each x refl
+then_made Q (Err cause) f each = tt
+
 then_grows : {X : Type 0} (g : Graph) (a : Result X Cause) (f : X → Edited) → ((x : X) → a ≡ Ok x → MayGrow g (f x)) → MayGrow g (a >>= f)
-then_grows g (Ok x) f each = each x refl
-then_grows g (Err cause) f each = tt
+then_grows g a f each = then_made (Grows g) a f each
 
 placed_longer : {X : Type 0} (most : ℕ) (place : Option ℕ) (x : X) (xs ys : List X) → placed most place x xs ≡ Ok ys → length xs ≤ length ys
 placed_longer most (Some place) x xs ys e = let same : slice_set xs place x ≡ ys = cc in omega (arith, ap length same, length-set xs place x)
@@ -40,23 +47,23 @@ placed_longer {X} most None x xs ys e = here (nat_le most (length xs)) e
     here false e = let same : xs ++ x ∷ [] ≡ ys = cc in omega (arith, ap length same, length-append xs (x ∷ []))
 
 -- the edit of an arc, from its checks on
-abbrev arc_set : Graph → (n s m : ℕ) → Node → Edited
+abbrev pub arc_set : Graph → (n s m : ℕ) → Node → Edited
 arc_set g n s m node = Ok (record g { nodes = slice_set g.nodes n (record node { arcs = slice_set node.arcs s m }) })
 
-abbrev arc_checked : Graph → (n s m : ℕ) → Node → Bool → Bool → Edited
+abbrev pub arc_checked : Graph → (n s m : ℕ) → Node → Bool → Bool → Edited
 arc_checked g n s m node bad cycle = refused_if bad BadTarget >>= (λ _. refused_if cycle Cycle >>= (λ _. arc_set g n s m node))
 
-abbrev arc_to : Graph → (n s m : ℕ) → Node → Edited
+abbrev pub arc_to : Graph → (n s m : ℕ) → Node → Edited
 arc_to g n s m node =
     ok_or (slice_get g.nodes m) UnknownNode >>= (λ (target : Node). arc_checked g n s m node (is_source target.kind) (leads g (length g.nodes) m n))
 
-abbrev arc_named : Graph → (n s : ℕ) → Node → List ℕ → Edited
+abbrev pub arc_named : Graph → (n s : ℕ) → Node → List ℕ → Edited
 arc_named g n s node to = ok_or (node_named g to) UnknownNode >>= (λ m. arc_to g n s m node)
 
-abbrev arc_at : Graph → ℕ → Node → (slot to : List ℕ) → Edited
+abbrev pub arc_at : Graph → ℕ → Node → (slot to : List ℕ) → Edited
 arc_at g n node slot to = ok_or (place_of (λ slot. slot) slot (slots node.kind)) UnknownSlot >>= (λ s. arc_named g n s node to)
 
-abbrev arc_from : Graph → ℕ → (slot to : List ℕ) → Edited
+abbrev pub arc_from : Graph → ℕ → (slot to : List ℕ) → Edited
 arc_from g n slot to = ok_or (slice_get g.nodes n) UnknownNode >>= (λ node. arc_at g n node slot to)
 
 checked_grows : (g : Graph) (n s m : ℕ) (node : Node) (bad cycle : Bool) → MayGrow g (arc_checked g n s m node bad cycle)
@@ -106,6 +113,18 @@ unroute_grows g prefix =
     then_grows g (ok_or (route_place prefix g.routes) NoRoute) (λ place. Ok (record g { routes = remove g.routes place }))
     (λ place d. record { nodes = omega arith; interfaces = omega arith })
 
+route6_grows : (g : Graph) (prefix : Prefix6) (word : RouteWord) → MayGrow g (with_route6 g prefix word)
+route6_grows g prefix word =
+    let route : RouteTo → Prefix6 × RouteTo = λ to. (prefix, to) in
+    then_grows g (target_of g word) (λ to. placed most_routes (route6_place prefix g.routes6) (route to) g.routes6 >>= (λ list. Ok (record g { routes6 = list }))) (λ to d.
+    then_grows g (placed most_routes (route6_place prefix g.routes6) (route to) g.routes6) (λ list. Ok (record g { routes6 = list }))
+    (λ list e. record { nodes = omega arith; interfaces = omega arith }))
+
+unroute6_grows : (g : Graph) (prefix : Prefix6) → MayGrow g (without_route6 g prefix)
+unroute6_grows g prefix =
+    then_grows g (ok_or (route6_place prefix g.routes6) NoRoute) (λ place. Ok (record g { routes6 = remove g.routes6 place }))
+    (λ place d. record { nodes = omega arith; interfaces = omega arith })
+
 -- an edit takes no node and no interface away
 apply_grows : (g : Graph) (edit : Edit) → MayGrow g (apply g edit)
 apply_grows g (edits.Interface name mac mtu up filter) = interface_grows g (record { name = name; mac = mac; mtu = mtu; up = up; filter = filter })
@@ -114,6 +133,8 @@ apply_grows g (edits.Arc from slot to) = arc_grows g from slot to
 apply_grows g (edits.Adjacency name interface mac) = adjacency_grows g name interface mac
 apply_grows g (edits.Route prefix to) = route_grows g prefix to
 apply_grows g (edits.Unroute prefix) = unroute_grows g prefix
+apply_grows g (edits.Route6 prefix to) = route6_grows g prefix to
+apply_grows g (edits.Unroute6 prefix) = unroute6_grows g prefix
 
 -- one graph grows to the next, and that to a third
 grows_on : (a b c : Graph) → Grows a b → Grows b c → Grows a c

@@ -1,12 +1,12 @@
 -- Generations that are made one after the other.
-use Rattle.std.proofs.Common.{◌≡◌, ℕ, zero, suc, ◌+◌, ◌<◌, ◌≤◌, List, [], ◌∷◌, length, map, get_or, drop, refl, sym, ap, subst, ◌∙◌, arith}
+use Rattle.std.proofs.Common.{◌≡◌, ℕ, ◌+◌, ◌<◌, ◌≤◌, List, [], ◌∷◌, length, map, get_or, drop, sym, ap, ◌∙◌, arith}
 use Rattle.std.specs.Prelude.{Some, Ok, Err, slice_get}
 use Rattle.std.proofs.lemmas.List.{drop_more, drop_all}
 use Rattle.std.proofs.lemmas.Option.{same_Some}
 use Rattle.std.proofs.lemmas.Simd.{map-map}
 use Rattle.vg_model.specs.declared.edits.EditLine.{EditLine}
 use Rattle.vg_model.specs.Edit.{apply_all}
-use Rattle.vg_model.specs.Generations.{Graphs, in_front, after_groups}
+use Rattle.vg_model.specs.Generations.{Graphs, after_groups}
 use Rattle.vg_model.specs.Graph.{Graph}
 use Rattle.vg_script.specs.Events.{Event, events}
 use Rattle.vg_plan.specs.declared.events.Run.{Run}

@@ -1,6 +1,7 @@
 pub mod EditLemmas
 pub mod GenerationLemmas
 pub mod GrowthLemmas
+pub mod KindLemmas
 pub mod CountLemmas
 pub mod WindowLemmas
 pub mod TimesLemmas

@@ -1,5 +1,5 @@
 -- What contracts see of generations that are made one after the other.
-use Rattle.std.specs.Prelude.{◌≡◌, ℕ, ◌≤◌, List, [], length, map, drop, Ok, Err}
+use Rattle.std.specs.Prelude.{◌≡◌, ℕ, List, [], map, drop, Ok, Err}
 use Rattle.vg_model.specs.declared.edits.EditLine.{EditLine}
 use Rattle.vg_model.specs.Generations.{Graphs, after_groups}
 use Rattle.vg_model.specs.Graph.{Graph}

@@ -1,5 +1,4 @@
 pub mod Refusals
-pub mod Routed
 pub mod Plan
 pub mod Times
 pub mod View

@@ -1,8 +1,8 @@
--- A master: a graph and its table of routes, seen as one whole graph.
+-- A master: a graph and its tables of routes, seen as one whole graph.
 use Rattle.vg_model.specs.Graph as model
 use Rattle.vg_plan.specs.declared.masters.Master.TheInside.{Inside}
-use Rattle.vg_plan.specs.Routed.{with_routes}
+use Rattle.vg_model.specs.Graph.{with_routes}
 
 -- the whole graph of these parts
 abbrev pub whole : Inside → model.Graph
-whole master = with_routes master.graph master.fib
+whole master = with_routes master.graph master.fib master.fib6

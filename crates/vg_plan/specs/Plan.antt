@@ -1,7 +1,8 @@
 -- Plans: the generations of a script, and the packets of each (this project's profile).
 use Rattle.std.specs.Prelude.{◌≡◌, ℕ, ◌+◌, ◌<◌, ◌≤◌, ◌↔◌, nat_le, List, [], length, map, count_by, slice_get, Some, Ok, Err}
 use Rattle.std.specs.List.{AllByRecursion, enumerate_from}
-use Rattle.vg_model.specs.Graph.{Graph}
+use Rattle.vg_model.specs.declared.kinds.Kind.TheVariants as kinds
+use Rattle.vg_model.specs.Graph.{Graph, kind_at, error_drop}
 use Rattle.vg_model.specs.Start.{start_graph}
 use Rattle.vg_model.specs.Valid.{IsValid}
 use Rattle.vg_model.specs.Edit.{most_nodes, most_interfaces, most_adjacencies, most_routes, apply_all}
@@ -28,6 +29,7 @@ pub record IsGeneration (g : Graph) : Type 0 where
   pub few_interfaces : length g.interfaces ≤ most_interfaces
   pub few_adjacencies : length g.adjacencies ≤ most_adjacencies
   pub few_routes : length g.routes ≤ most_routes
+  pub few_routes6 : length g.routes6 ≤ most_routes
 
 -- what holds of every plan: the script is lawful, all of its edits can be made, and these are the graphs
 pub record IsPlan (plan : Planned) : Type 0 where
@@ -67,3 +69,7 @@ abbrev pub EventsAreMade : Planned → Type 0
 EventsAreMade plan =
     (g : ℕ) (event : Event) → slice_get (events plan.script) g ≡ Some event
     → (before after : Graph) × (slice_get plan.graphs g ≡ Some before) × (slice_get plan.graphs (g + 1) ≡ Some after) × (apply_all before event.edits ≡ Ok after)
+
+-- in the graph of each generation one node alone is of the kind that drops: `error-drop`
+abbrev pub DropsAreOne : Planned → Type 0
+DropsAreOne plan = (generation : ℕ) (g : Graph) (n : ℕ) → slice_get plan.graphs generation ≡ Some g → kind_at g n ≡ Some kinds.ErrorDrop → n ≡ error_drop

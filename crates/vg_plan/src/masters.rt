@@ -1,29 +1,32 @@
 //! The graph and the routes that main edits, event by event.
-ghost use Rattle.std.specs.Prelude.{◌≡◌, ◌≢◌, IfOk, IfErr, OnOk, OnErr, MatchOption, MatchResult, Ok, Some, slice_get, length};
+ghost use Rattle.std.specs.Prelude.{◌≡◌, ◌≢◌, ◌<◌, IfOk, IfErr, OnOk, OnErr, MatchOption, MatchResult, Ok, Some, None, slice_get, length};
 ghost use Rattle.vg_model.specs.Start.{start_graph};
 ghost use Rattle.vg_model.specs.Valid.{IsRouteWithin};
-ghost use Rattle.vg_model.specs.Edit.{apply, apply_all, target_of, with_route, without_route};
+ghost use Rattle.std.specs.List.{AllByRecursion};
+ghost use Rattle.vg_model.specs.Edit.{adjacency_named, apply, apply_all, members_of, target_of, with_route, with_route6, without_route, without_route6};
+ghost use Rattle.vg_model.specs.Members.{AreMembers};
 ghost use Rattle.vg_graph.specs.Refusals.{IsGraphEdit, cause_of as cause_of_graph};
 ghost use Rattle.vg_script.specs.Causes.{cause_of};
 ghost use Rattle.vg_plan.specs.Refusals.{IsCauseOf, IsRefusalOf, out_of_memory as memory_ran_out};
-ghost use Rattle.vg_plan.specs.Routed.{with_routes};
+ghost use Rattle.vg_model.specs.Graph.{with_routes};
 
 use crate::plans::Plan;
 use std::alloc::Global;
 use std::marker::Model;
 use std::mem::replace;
-use vg_fib::{Fib, FibError};
+use vg_fib::{Fib, Fib6, FibError};
 use vg_graph::{Graph, GraphError};
-use vg_model::{Edit, Edits, Memory, Prefix, RouteTo, RouteWord};
+use vg_model::{Edit, Edits, Members, Memory, Name, Prefix, Prefix6, RouteTo, RouteWord};
 use vg_script::{ScriptCause, ScriptError};
 
-/// A graph and its table of routes: one whole graph, which is valid.
+/// A graph and its tables of routes: one whole graph, which is valid.
 #[derive(Drop)]
 pub struct Master {
     graph: Graph,
     fib: Fib,
-    // The table before the last event, for its memory.
-    spare: Option<Fib>,
+    fib6: Fib6,
+    // The tables before the last event, for their memory.
+    spare: Option<(Fib, Fib6)>,
 }
 
 impl Model for Master {
@@ -97,19 +100,20 @@ impl Master {
         Ok(Master {
             graph: Graph::start(alloc)?,
             fib: Fib::new(alloc)?,
+            fib6: Fib6::new(alloc)?,
             spare: None,
         })
     }
 
     /// The graph, without its routes.
     pub fn graph(&self) -> &Graph
-        ensures graph { with_routes result.now self.now.routes ≡ self.now }
+        ensures graph { with_routes result.now self.now.routes self.now.routes6 ≡ self.now }
         ensures generation { IsGeneration self.now }
     {
         &self.graph
     }
 
-    /// The routes.
+    /// The IPv4 routes.
     pub fn fib(&self) -> &Fib
         ensures routes { result.now ≡ self.now.routes }
         ensures generation { IsGeneration self.now }
@@ -117,17 +121,26 @@ impl Master {
         &self.fib
     }
 
-    // An equal master. Its table is made in the memory of another one where there is one.
-    pub(crate) fn copy(&self, alloc: Global, spare: Option<Fib>) -> Result<Master, Memory>
+    /// The IPv6 routes.
+    pub fn fib6(&self) -> &Fib6
+        ensures routes { result.now ≡ self.now.routes6 }
+        ensures generation { IsGeneration self.now }
+    {
+        &self.fib6
+    }
+
+    // An equal master. Its tables are made in the memory of others where there are some.
+    pub(crate) fn copy(&self, alloc: Global, spare: Option<(Fib, Fib6)>) -> Result<Master, Memory>
         ensures { IfOk result (λ copy. copy ≡ self.now) }
     {
-        let fib = match spare {
-            Some(spare) => spare.renewed(&self.fib)?,
-            None => self.fib.copy()?,
+        let (fib, fib6) = match spare {
+            Some((fib, fib6)) => (fib.renewed(&self.fib)?, fib6.renewed(&self.fib6)?),
+            None => (self.fib.copy()?, self.fib6.copy()?),
         };
         Ok(Master {
             graph: self.graph.copy(alloc)?,
             fib,
+            fib6,
             spare: None,
         })
     }
@@ -149,8 +162,8 @@ impl Master {
             return Err(out_of_memory());
         };
         after.make(edits)?;
-        let Master { fib: before, .. } = replace(self, after);
-        self.spare = Some(before);
+        let Master { fib, fib6, .. } = replace(self, after);
+        self.spare = Some((fib, fib6));
         Ok(())
     }
 
@@ -179,20 +192,44 @@ impl Master {
         match edit {
             Edit::Route { prefix, to } => self.set_route(*prefix, to),
             Edit::Unroute { prefix } => self.remove_route(*prefix),
+            Edit::Route6 { prefix, to } => self.set_route6(*prefix, to),
+            Edit::Unroute6 { prefix } => self.remove_route6(*prefix),
             _ => self.edit_graph(edit),
         }
     }
 
-    // Where a route leads, with its adjacency by number.
+    // The number of the adjacency of this name.
+    fn adjacency(&self, name: &Name) -> Result<u16, ScriptCause>
+        ensures number { MatchResult result (λ number. adjacency_named self.now name.now ≡ Some number)
+            (λ cause. (adjacency_named self.now name.now ≡ None) × (cause ≡ ScriptCause.UnknownAdjacency)) }
+        ensures within { IfOk result (λ number. number < length self.now.adjacencies) }
+    {
+        match self.graph.adjacency(name) {
+            Some(number) => Ok(number),
+            None => Err(ScriptCause::UnknownAdjacency),
+        }
+    }
+
+    // The numbers of the adjacencies of these names.
+    fn members(&self, names: &[Name]) -> Result<Members, ScriptCause>
+        requires { AreMembers names.now }
+        ensures members { MatchResult result (λ members. members_of self.now names.now ≡ Ok members) (IsCauseOf (members_of self.now names.now)) }
+        ensures within { IfOk result (AllByRecursion (λ number. number < length self.now.adjacencies)) }
+    {
+        let mut members = Members::one(self.adjacency(&names[0])?);
+        for i in 1..names.len() {
+            members.push(self.adjacency(&names[i])?);
+        }
+        Ok(members)
+    }
+
+    // Where a route leads, with its adjacencies by number.
     fn target(&self, to: &RouteWord) -> Result<RouteTo, ScriptCause>
         ensures target { MatchResult result (λ target. target_of self.now to.now ≡ Ok target) (IsCauseOf (target_of self.now to.now)) }
         ensures within { IfOk result (IsRouteWithin (length self.now.adjacencies)) }
     {
         match to {
-            RouteWord::Via(name) => match self.graph.adjacency(name) {
-                Some(adjacency) => Ok(RouteTo::Via(adjacency)),
-                None => Err(ScriptCause::UnknownAdjacency),
-            },
+            RouteWord::Via(names) => Ok(RouteTo::Via(self.members(names.as_slice())?)),
             RouteWord::Local => Ok(RouteTo::Local),
             RouteWord::Drop => Ok(RouteTo::Drop),
         }
@@ -217,6 +254,30 @@ impl Master {
         ensures same { OnErr result (self.new ≡ self.old) }
     {
         match self.fib.remove(prefix) {
+            Ok(()) => Ok(()),
+            Err(_) => Err(ScriptCause::NoRoute),
+        }
+    }
+
+    fn set_route6(&mut self, prefix: Prefix6, to: &RouteWord) -> Result<(), ScriptCause>
+        ensures done { OnOk result (with_route6 self.old prefix to.now ≡ Ok self.new) }
+        ensures refused { IfErr result (IsCauseOf (with_route6 self.old prefix to.now)) }
+        ensures same { OnErr result (self.new ≡ self.old) }
+    {
+        let target = self.target(to)?;
+        match self.fib6.set(prefix, target) {
+            Ok(()) => Ok(()),
+            Err(FibError::TooMany) => Err(ScriptCause::TooMany),
+            Err(FibError::Memory) => Err(ScriptCause::Memory),
+        }
+    }
+
+    fn remove_route6(&mut self, prefix: Prefix6) -> Result<(), ScriptCause>
+        ensures done { OnOk result (without_route6 self.old prefix ≡ Ok self.new) }
+        ensures refused { IfErr result (IsCauseOf (without_route6 self.old prefix)) }
+        ensures same { OnErr result (self.new ≡ self.old) }
+    {
+        match self.fib6.remove(prefix) {
             Ok(()) => Ok(()),
             Err(_) => Err(ScriptCause::NoRoute),
         }

@@ -1,11 +1,11 @@
 -- How many buffers go between a pool and a cache.
-use Rattle.std.specs.Prelude.{ℕ, ◌+◌, ◌-◌, ◌*◌, ◌/◌, ◌^◌, ◌==◌, nat_lt, min, if◌then◌else◌}
+use Rattle.std.specs.Prelude.{ℕ, ◌+◌, ◌-◌, ◌*◌, ◌/◌, ◌^◌, nat_lt, min, if◌then◌else◌}
 use Rattle.vg_model.specs.PoolBook.{CacheBook}
 use Rattle.vg_pool.specs.Settlement.{PoolState}
 
 -- the most buffers of a cache
 abbrev pub most_cached : ℕ
-most_cached = 2560
+most_cached = 9472
 
 -- where so many buffers were ever taken from a pool, it gives no more
 abbrev pub most_taken : ℕ
@@ -28,9 +28,13 @@ taken_of n pool cache =
 abbrev pub given_of : ℕ → ℕ → PoolState → CacheBook → ℕ
 given_of total n pool cache = min n (min cache.len (total - pool.len))
 
--- how many buffers an empty cache asks for, and a cache that has some: a lot, and none
+-- a cache with fewer buffers takes a lot
+abbrev pub least_kept : ℕ
+least_kept = 5
+
+-- how many buffers a cache asks for: a lot where it may lack some for the longest packet, else none
 abbrev pub wanted : CacheBook → ℕ
-wanted cache = if cache.len == 0 then lot else 0
+wanted cache = if nat_lt cache.len least_kept then lot else 0
 
 -- how many buffers a cache has too many: the fewest lots that leave it no more than it may keep
 abbrev pub surplus : CacheBook → ℕ

@@ -9,7 +9,7 @@ pub record Settlement : Type 0 where
   pub len : ℕ
   -- how many it was made with
   pub total : ℕ
-  -- how many `alloc` gave out of all its caches
+  -- how many `alloc` gave out of all its caches, each buffer of a chain counted
   pub allocated : ℕ
   -- how many `alloc` gave out of each of its caches and `free` took into it, in the order in which they were settled
   pub caches : List CacheCounts

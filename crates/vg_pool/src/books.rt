@@ -6,6 +6,7 @@ use std::sync::ledger::Ledger;
 
 /// The ledger of the buffers ever taken from a pool. It also names how many buffers the pool has.
 pub trait PoolLedger: Ledger {
+    /// How many buffers the pool has.
     ghost total: { ℕ };
 }
 

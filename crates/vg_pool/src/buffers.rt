@@ -1,35 +1,48 @@
-//! Buffers: one packet each, with its metadata.
-ghost use Rattle.std.specs.Prelude.{◌≡◌, ◌+◌, ◌<◌, ◌≤◌, true, false, Some, IfOk, [], ◌∷◌, ◌++◌, length};
-ghost use Rattle.vg_model.specs.Valid.{AreBytes};
+//! Buffers: one packet each, with its metadata, over one to five buffers of 2,048 bytes.
+ghost use Rattle.std.specs.Prelude.{◌≡◌, ◌+◌, ◌*◌, ◌<◌, ◌≤◌, true, false, Some, [], ◌∷◌, ◌++◌, length, min, vec_len, vec_capacity};
+ghost use Rattle.vg_model.specs.Packet.{first_room, longest_packet};
+ghost use Rattle.vg_model.specs.Tag as tags;
+ghost use Rattle.vg_model.specs.Valid.{most_room, most_extent};
+ghost use Rattle.vg_pool.specs.Contents.{AreContents, kept_of};
 
+use crate::areas::{AREA_SIZE, Area};
+use crate::parts::Parts;
+use crate::spares::Spare;
 use crate::stacks::BufferStack;
-use std::alloc::{AllocError, Global};
 use std::marker::Model;
-use vg_model::limits::LONGEST_PACKET;
+use std::mem;
+use vg_model::limits::{FIRST_ROOM, LONGEST_PACKET};
 use vg_model::lists::know_bytes;
 use vg_model::{Leg, Legs};
 
-// The memory of a buffer. The metadata stands in front, next to the packet's first bytes.
+// The type that begins a tag.
+const TAG_TYPE: u16 = 0x8100;
+
+// The memory of a buffer. The metadata stands in front, next to the packet's first bytes; behind the first block of a chain
+// it has no meaning.
 #[cycle(stack)]
 #[derive(Drop)]
 pub(crate) struct Block {
     // The buffers below this one where it is in a stack; else none.
     pub(crate) below: BufferStack,
-    number: u32,
-    checked: bool,
-    adjacency: Option<u16>,
-    interface: Option<u16>,
-    legs: Legs,
-    // How many of the bytes are in use.
-    len: usize,
-    bytes: [u8; LONGEST_PACKET],
+    // The buffers behind this one in its chain.
+    pub(crate) rest: Parts,
+    pub(crate) number: u32,
+    pub(crate) checked: bool,
+    pub(crate) adjacency: Option<u16>,
+    pub(crate) interface: Option<u16>,
+    pub(crate) legs: Legs,
+    // How many bytes the buffers behind have.
+    pub(crate) behind: usize,
+    pub(crate) area: Area,
 }
 
-/// A buffer: a packet of at most [`LONGEST_PACKET`] bytes, its number, the mark `checked`, an adjacency and an interface to transmit
-/// on, where they are chosen, and the legs that it has done so far, at most four.
+/// A chain of one to five buffers: a packet of at most [`LONGEST_PACKET`] bytes as it was received, its number, the mark `checked`,
+/// an adjacency and an interface to transmit on, where they are chosen, and the legs that it has done so far, at most four. A packet
+/// has room to get longer: [`FIRST_ROOM`] bytes as it is received.
 ///
-/// It is one pointer to its block. A packet with the mark is one whose IPv4 header passes the checks just as its bytes stand. A buffer
-/// must be freed to come back to its pool: one that is dropped never does.
+/// It is one pointer to the block of its first buffer. A packet with the mark is one whose IPv4 header passes the checks just as its
+/// bytes stand. A chain must be freed to come back to its pool: the buffers of one that is dropped never do.
 #[derive(Drop)]
 pub struct Buffer {
     pub(crate) block: Box<Block>,
@@ -46,53 +59,41 @@ impl Model for Buffer {
     ghost invariant = { λ b. IsAlone b.block.value };
 }
 
-impl Block {
-    ghost use Rattle.vg_pool.specs.Contents.{nothing};
-    ghost use Rattle.vg_pool.specs.Blocks.{contents, IsAlone};
-
-    // No packet.
-    fn new() -> Block
-        ensures contents { contents result ≡ nothing }
-        ensures block { IsAlone result }
-    {
-        Block {
-            below: BufferStack::new(),
-            number: 0,
-            checked: false,
-            adjacency: None,
-            interface: None,
-            legs: Legs::new(),
-            len: 0,
-            bytes: [0; LONGEST_PACKET],
-        }
-    }
-}
-
 impl Buffer {
-    ghost use Rattle.vg_pool.specs.Contents.{nothing, received, written, Passes, AreContents, longest_packet};
+    ghost use Rattle.vg_model.specs.KindWord.{least_vlan, most_vlan};
+    ghost use Rattle.vg_model.specs.PoolBook.{buffer_size, most_pieces, pieces_of};
+    ghost use Rattle.vg_pool.specs.Contents.{received, laid, nothing, written, head_of, least_head, part, Passes, AreContents};
 
-    // An empty buffer.
-    pub(crate) fn new(alloc: Global) -> Result<Buffer, AllocError>
-        ensures { IfOk result (λ buffer. buffer ≡ nothing) }
+    /// Makes it the packet of this number and these bytes, as it is received: with no mark, no adjacency, no interface and no legs. A
+    /// packet of more than [`LONGEST_PACKET`] bytes keeps its number alone.
+    pub fn fill(&mut self, number: u32, bytes: &[u8])
+        requires { length bytes.now ≤ longest_packet → pieces_of (length bytes.now) ≤ self.old.pieces }
+        ensures { self.new ≡ received self.old.pieces number bytes.now }
     {
-        Ok(Buffer {
-            block: Box::new(alloc, Block::new())?,
-        })
+        let bytes = kept(bytes);
+        self.lay(number, FIRST_ROOM as u32, bytes);
     }
 
-    /// Makes it the packet of this number and these bytes, as it is received: with no mark, no adjacency, no interface and no legs.
-    pub fn fill(&mut self, number: u32, bytes: &[u8])
-        requires { length bytes.now ≤ longest_packet }
-        ensures { self.new ≡ received number bytes.now }
+    /// Makes it the packet of this number, this room and these bytes, of a packet that lay in a chain before and was kept elsewhere: with no
+    /// mark, no adjacency, no interface and no legs.
+    pub fn lay(&mut self, number: u32, room: u32, bytes: &[u8])
+        requires room { room ≤ most_room }
+        requires len { length bytes.now + room ≤ most_extent }
+        requires fits { length bytes.now + room ≤ first_room + buffer_size * self.old.pieces }
+        ensures { self.new ≡ laid self.old.pieces number room bytes.now }
     {
+        know_bytes(bytes);
+        let room = room as usize;
         let block = &mut *self.block;
         block.number = number;
         block.checked = false;
         block.adjacency = None;
         block.interface = None;
         block.legs = Legs::new();
-        block.len = bytes.len();
-        block.bytes[..bytes.len()].copy_from_slice(bytes);
+        let first = bytes.len().min(AREA_SIZE - room);
+        block.area.fill(room, &bytes[..first]);
+        block.behind = bytes.len() - first;
+        block.rest.fill(&bytes[first..]);
     }
 
     /// The packet's number in the capture, from 0.
@@ -102,15 +103,69 @@ impl Buffer {
         self.block.number
     }
 
-    /// The packet's bytes.
-    pub fn bytes(&self) -> &[u8]
-        ensures bytes { result.now ≡ self.now.packet.bytes }
-        ensures kept { AreContents self.now }
+    /// How many bytes the packet has.
+    pub fn len(&self) -> u32
+        ensures { result ≡ length self.now.packet.bytes }
     {
         let block = &*self.block;
-        let bytes = &block.bytes[..block.len];
-        know_bytes(bytes);
-        bytes
+        (block.area.len() + block.behind) as u32
+    }
+
+    /// How many bytes may still be put in front of the packet where it lies (VLIB: the headroom of its buffer).
+    pub fn room(&self) -> u32
+        ensures room { result ≡ self.now.packet.room }
+        ensures few { result ≤ most_room }
+    {
+        self.block.area.room() as u32
+    }
+
+    /// How many buffers the chain has.
+    pub fn pieces(&self) -> u32
+        ensures pieces { result ≡ self.now.pieces }
+        ensures bounds { (1 ≤ result) × (result ≤ most_pieces) }
+    {
+        self.block.rest.len() + 1
+    }
+
+    /// The part of the packet in buffer `k` of the chain: the first part is its [`head`](Buffer::head), and those of all buffers
+    /// joined in order are the packet's bytes.
+    pub fn piece(&self, k: u32) -> &[u8]
+        requires { k < self.now.pieces }
+        ensures { result.now ≡ part self.now.packet k }
+    {
+        let block = &*self.block;
+        if k == 0 {
+            block.area.bytes()
+        } else {
+            block.rest.part(k - 1)
+        }
+    }
+
+    /// The first bytes of the packet, all that are in the first buffer: at least 1,984, or as many as it has.
+    #[inline]
+    pub fn head(&self) -> &[u8]
+        ensures head { result.now ≡ head_of self.now.packet }
+        ensures long { min (length self.now.packet.bytes) least_head ≤ length result.now }
+        ensures kept { AreContents self.now }
+    {
+        let head = self.block.area.bytes();
+        know_bytes(head);
+        head
+    }
+
+    /// Puts the packet's bytes behind a list that has room for them, and takes no memory.
+    #[inline]
+    pub fn copy_into(&self, list: &mut Vec<u8>)
+        requires { vec_len list.old + length self.now.packet.bytes ≤ vec_capacity list.old }
+        ensures bytes { list.new.items ≡ list.old.items ++ self.now.packet.bytes }
+        ensures room { vec_capacity list.old ≤ vec_capacity list.new }
+    {
+        know_contents(self);
+        for k in 0..self.pieces() {
+            let Ok(()) = list.extend_from_slice(self.piece(k)) else {
+                unreachable!()
+            };
+        }
     }
 
     /// Whether the packet has the mark: the checks of its IPv4 header would pass as it is.
@@ -142,17 +197,14 @@ impl Buffer {
         self.block.legs.as_slice()
     }
 
-    /// Puts these bytes in place of those that stand from `at` on.
+    /// Puts these bytes in place of those that stand from `at` on, all of them in the packet's head.
     pub fn write(&mut self, at: u32, bytes: &[u8])
-        requires within { at + length bytes.now ≤ length self.old.packet.bytes }
+        requires within { at + length bytes.now ≤ length (head_of self.old.packet) }
         // a packet with the mark would still pass the checks
         requires sound { self.old.packet.checked ≡ true → Passes (written self.old.packet at bytes.now) }
         ensures { self.new ≡ record self.old { packet = written self.old.packet at bytes.now } }
     {
-        let at = at as usize;
-        let block = &mut *self.block;
-        let packet = &mut block.bytes[..block.len];
-        packet[at..at + bytes.len()].copy_from_slice(bytes);
+        self.block.area.write(at as usize, bytes);
     }
 
     /// Sets the mark.
@@ -192,10 +244,76 @@ impl Buffer {
         self.block.legs.push(leg);
     }
 
-    // Empties it. No byte is touched.
-    pub(crate) fn clear(&mut self)
-        ensures { self.new ≡ nothing }
+    /// Removes the four bytes of the packet's tag, and takes the mark away. The packet then has as much more room. At most twelve bytes
+    /// move.
+    pub fn cut(&mut self)
+        requires tagged { tags.is_tagged self.old.packet ≡ true }
+        requires room { self.old.packet.room + tags.tag_len ≤ most_room }
+        ensures { self.new ≡ record self.old { packet = tags.cut self.old.packet } }
     {
-        self.fill(0, &[]);
+        know_tagged(self);
+        self.unmark();
+        self.block.area.cut();
     }
+
+    /// Puts a tag of this id in before byte 12, of priority 0 and not eligible to be dropped first, and takes the mark away. The packet
+    /// then has as much less room. At most twelve bytes move.
+    pub fn tag(&mut self, id: u16)
+        requires long { 14 ≤ length self.old.packet.bytes }
+        requires room { tags.tag_len ≤ self.old.packet.room }
+        requires id { (least_vlan ≤ id) × (id ≤ most_vlan) }
+        ensures { self.new ≡ record self.old { packet = tags.tagged id self.old.packet } }
+    {
+        let [type_high, type_low] = TAG_TYPE.to_be_bytes();
+        let [high, low] = id.to_be_bytes();
+        let first = &mut *self.block;
+        first.area.put_in([type_high, type_low, high, low]);
+        first.checked = false;
+    }
+
+    // One more buffer in the chain, which has no packet.
+    pub(crate) fn lengthen(&mut self, spare: Spare)
+        requires few { self.old.pieces < most_pieces }
+        requires empty { self.old ≡ nothing self.old.pieces }
+        ensures { self.new ≡ nothing (self.old.pieces + 1) }
+    {
+        self.block.rest.push(spare);
+    }
+
+    // The first buffer, and those behind it.
+    pub(crate) fn apart(self) -> (Spare, Parts)
+        ensures { self.pieces ≡ length result.1 + 1 }
+    {
+        let Buffer { mut block } = self;
+        let rest = mem::replace(&mut block.rest, Parts::new());
+        (Spare::new(block), rest)
+    }
+}
+
+/// Nothing happens. Its contract says what the type of a buffer keeps of what it carries.
+#[inline]
+pub fn know_contents(buffer: &Buffer)
+    ensures { AreContents buffer.now }
+{
+    let _head = buffer.head();
+}
+
+// A frame with a tag has at least 18 bytes.
+#[inline]
+fn know_tagged(buffer: &Buffer)
+    requires { tags.is_tagged buffer.now.packet ≡ true }
+    ensures { 18 ≤ length buffer.now.packet.bytes }
+{
+    let _ = buffer;
+}
+
+// The bytes that are kept of a packet: none of one that is too long.
+#[inline]
+fn kept(bytes: &[u8]) -> &[u8]
+    ensures { result.now ≡ kept_of bytes.now }
+{
+    if bytes.len() > LONGEST_PACKET {
+        return &[];
+    }
+    bytes
 }

@@ -1,19 +1,21 @@
 //! Caches: the buffers of one worker.
-ghost use Rattle.std.specs.Prelude.{◌≡◌, ◌+◌, ◌-◌, ◌^◌, ◌<◌, ◌≤◌, MatchOption, IfOk};
-ghost use Rattle.vg_model.specs.PoolBook.{IsCacheBook, empty_cache};
+ghost use Rattle.std.specs.Prelude.{◌≡◌, ◌+◌, ◌-◌, ◌^◌, ◌<◌, ◌≤◌, MatchOption, IfOk, vec_len, vec_capacity};
+ghost use Rattle.vg_model.specs.PoolBook.{IsCacheBook, empty_cache, most_pieces, pieces_of};
 ghost use Rattle.vg_pool.specs.Contents.{nothing};
 ghost use Rattle.vg_pool.specs.Moves.{most_cached};
 ghost use Rattle.vg_pool.specs.Settlement.{counts_of};
 
 use crate::buffers::Buffer;
+use crate::spares::Spare;
 use std::alloc::{AllocError, Global};
 use std::marker::Model;
 use std::sync::ledger::{Ledger, Share};
+use vg_model::limits::{BUFFER_SIZE, LONGEST_PACKET};
 
 /// The most buffers of a cache.
-pub const MOST_CACHED: usize = 2560;
+pub const MOST_CACHED: usize = 9472;
 
-/// How many buffers `alloc` gave out of a cache, and how many `free` took into it.
+/// How many buffers `alloc` gave out of a cache, and how many `free` took into it, each buffer of a chain counted.
 #[derive(Clone, Copy, Debug, Default)]
 pub struct CacheCounts {
     /// How many `alloc` gave out.
@@ -25,8 +27,8 @@ pub struct CacheCounts {
 /// The buffers that one worker takes from and gives to, and its shares of the two ledgers of its pool.
 #[derive(Drop)]
 pub struct Cache<T: Ledger, G: Ledger> {
-    pub(crate) items: Vec<Buffer>,
-    // How many buffers `alloc` gave and `free` took.
+    pub(crate) items: Vec<Spare>,
+    // How many buffers `alloc` gave and `free` took, each of a chain counted.
     allocated: u64,
     freed: u64,
     // One part of each ledger.
@@ -77,27 +79,33 @@ impl<T: Ledger, G: Ledger> Cache<T, G> {
         self.items.len() as u32
     }
 
-    /// An empty buffer; `None` exactly where the cache has none.
-    pub fn alloc(&mut self) -> Option<Buffer>
+    /// An empty chain for a packet of so many bytes: as many buffers as it takes, or one where it has more than [`LONGEST_PACKET`],
+    /// since such a packet keeps none. `None` exactly where the cache has fewer.
+    pub fn alloc(&mut self, bytes: u32) -> Option<Buffer>
         requires { self.old.allocated < 2 ^ 62 }
-        ensures { MatchOption result
-            ((self.old.len ≡ 0) × (self.new ≡ self.old))
-            (λ buffer. (buffer ≡ nothing) × (0 < self.old.len) × (self.new ≡ record self.old { len = self.old.len - 1; allocated = self.old.allocated + 1 })) }
+        ensures { let pieces = pieces_of bytes in MatchOption result
+            ((self.old.len < pieces) × (self.new ≡ self.old))
+            (λ buffer. (buffer ≡ nothing pieces) × (pieces ≤ self.old.len)
+            × (self.new ≡ record self.old { len = self.old.len - pieces; allocated = self.old.allocated + pieces })) }
     {
-        let mut buffer = self.items.pop()?;
-        self.allocated += 1;
-        buffer.clear();
+        let count = pieces(bytes);
+        if self.items.len() < count as usize {
+            return None;
+        }
+        let buffer = chain(&mut self.items, count);
+        self.allocated += u64::from(count);
         Some(buffer)
     }
 
-    /// Takes a buffer in. What it carried is forgotten as it is given out again.
+    /// Takes the buffers of a chain in. What it carried is forgotten as they are given out again.
     pub fn free(&mut self, buffer: Buffer)
-        requires room { self.old.len < most_cached }
+        requires room { self.old.len + buffer.pieces ≤ most_cached }
         requires count { self.old.freed < 2 ^ 62 }
-        ensures { self.new ≡ record self.old { len = self.old.len + 1; freed = self.old.freed + 1 } }
+        ensures { self.new ≡ record self.old { len = self.old.len + buffer.pieces; freed = self.old.freed + buffer.pieces } }
     {
-        self.items.push_reserved(buffer);
-        self.freed += 1;
+        let count = buffer.pieces();
+        unchain(buffer, &mut self.items);
+        self.freed += u64::from(count);
     }
 
     // How many buffers `alloc` gave and `free` took.
@@ -123,5 +131,54 @@ impl<T: Ledger, G: Ledger> Cache<T, G> {
             given,
         } = self;
         (taken, given)
+    }
+}
+
+// How many buffers a packet of so many bytes takes.
+#[inline]
+fn pieces(bytes: u32) -> u32
+    ensures pieces { result ≡ pieces_of bytes }
+    ensures bounds { (1 ≤ result) × (result ≤ most_pieces) }
+{
+    let bytes = bytes as usize;
+    if bytes <= BUFFER_SIZE || bytes > LONGEST_PACKET {
+        return 1;
+    }
+    bytes.div_ceil(BUFFER_SIZE) as u32
+}
+
+// A chain of so many of the buffers, with no packet.
+#[inline]
+fn chain(items: &mut Vec<Spare>, count: u32) -> Buffer
+    requires bounds { (1 ≤ count) × (count ≤ most_pieces) }
+    requires enough { count ≤ vec_len items.old }
+    ensures buffer { result ≡ nothing count }
+    ensures items { vec_len items.new + count ≡ vec_len items.old }
+    ensures room { vec_capacity items.new ≡ vec_capacity items.old }
+{
+    let Some(first) = items.pop() else {
+        unreachable!()
+    };
+    let mut buffer = first.emptied();
+    for _ in 1..count {
+        let Some(spare) = items.pop() else {
+            unreachable!()
+        };
+        buffer.lengthen(spare);
+    }
+    buffer
+}
+
+// Puts the buffers of a chain behind the others.
+#[inline]
+fn unchain(buffer: Buffer, items: &mut Vec<Spare>)
+    requires { vec_len items.old + buffer.pieces ≤ vec_capacity items.old }
+    ensures items { vec_len items.new ≡ vec_len items.old + buffer.pieces }
+    ensures room { vec_capacity items.new ≡ vec_capacity items.old }
+{
+    let (first, mut rest) = buffer.apart();
+    items.push_reserved(first);
+    while let Some(spare) = rest.pop() {
+        items.push_reserved(spare);
     }
 }

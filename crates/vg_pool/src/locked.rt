@@ -5,7 +5,7 @@ ghost use Rattle.vg_pool.specs.Settlement.{settlement_of};
 
 use crate::books::PoolLedger;
 use crate::caches::Cache;
-use crate::pools::{MOST_KEPT, Pool};
+use crate::pools::{LEAST_KEPT, MOST_KEPT, Pool};
 use std::sync::ledger::Ledger;
 use std::sync::{Mutex, Wait};
 
@@ -27,14 +27,14 @@ impl<T: PoolLedger, G: Ledger> LockedPool<T, G> {
         }
     }
 
-    /// Where the cache is empty, takes 128 buffers, or as many as the pool has where it has fewer; else none. Answers how many.
+    /// Where the cache has fewer than 5 buffers, takes 128, or as many as the pool has where it has fewer; else none. Answers how many.
     ///
-    /// It waits for the lock where the cache is empty.
+    /// It waits for the lock where the cache has fewer than 5.
     pub fn refill<R: Wait>(&self, rt: &R, cache: &mut Cache<T, G>) -> u32
         ensures few { result ≤ wanted cache.old }
         ensures cache { cache.new ≡ record cache.old { len = cache.old.len + result; taken = cache.old.taken + result } }
     {
-        if cache.len() > 0 {
+        if cache.len() >= LEAST_KEPT {
             return 0;
         }
         self.pool.lock(rt).refill(cache)

@@ -4,14 +4,16 @@ ghost use Rattle.vg_model.specs.PoolBook.{IsPoolBook, empty_cache};
 ghost use Rattle.vg_pool.specs.Moves.{taken_of, given_of, wanted, surplus};
 ghost use Rattle.vg_pool.specs.Settlement.{book, settlement_of};
 
+use crate::areas::AREA_SIZE;
 use crate::books::PoolLedger;
-use crate::buffers::Buffer;
 use crate::caches::{Cache, MOST_CACHED};
 use crate::settled::Settled;
+use crate::spares::Spare;
 use arrayvec::ArrayVec;
 use std::alloc::{AllocError, Global};
 use std::marker::Model;
 use std::sync::ledger::{Blank, Book, Ledger, Share};
+use vg_land::cut_plots;
 use vg_model::Memory;
 
 /// Where so many buffers were ever taken from a pool, it gives no more.
@@ -20,13 +22,16 @@ pub const MOST_TAKEN: u64 = 1 << 62;
 /// How many buffers go between a pool and a cache at once.
 pub const LOT: u32 = 128;
 
+/// A cache with fewer buffers takes a lot: it may lack some for the longest packet.
+pub const LEAST_KEPT: u32 = 5;
+
 /// A cache with more buffers gives some back.
 pub const MOST_KEPT: u32 = 256;
 
 /// The buffers that no cache has, and the books of those ever taken and ever given back.
 #[derive(Drop)]
 pub struct Pool<T: PoolLedger, G: Ledger> {
-    list: Vec<Buffer>,
+    list: Vec<Spare>,
     total: u32,
     // How many buffers were ever taken, as its book says.
     taken_so_far: u64,
@@ -74,7 +79,7 @@ impl<T: PoolLedger, G: Ledger> Pool<T, G> {
         ensures pool { IfOk result (λ made. made.0 ≡ record { len = total; taken = 0; given = 0; settled = None }) }
         ensures caches { IfOk result (λ made. made.1.items ≡ replicate caches empty_cache) }
     {
-        let list = buffers(alloc, total as usize)?;
+        let list = buffers(alloc, total)?;
         let (taken, mut no_taken) = taken.open::<T>();
         let (given, mut no_given) = given.open::<G>();
         let mut made = Vec::with_capacity(alloc, caches)?;
@@ -134,13 +139,13 @@ impl<T: PoolLedger, G: Ledger> Pool<T, G> {
         count as u32
     }
 
-    /// Where the cache is empty, takes [`LOT`] buffers, as `take` does; else none. Answers how many.
+    /// Where the cache has fewer than [`LEAST_KEPT`] buffers, takes [`LOT`], as `take` does; else none. Answers how many.
     pub(crate) fn refill(&mut self, cache: &mut Cache<T, G>) -> u32
         ensures count { result ≡ taken_of (wanted cache.old) self.old cache.old }
         ensures pool { self.new ≡ record self.old { len = self.old.len - result; taken = self.old.taken + result } }
         ensures cache { cache.new ≡ record cache.old { len = cache.old.len + result; taken = cache.old.taken + result } }
     {
-        if cache.len() > 0 {
+        if cache.len() >= LEAST_KEPT {
             return 0;
         }
         self.take(LOT, cache)
@@ -189,7 +194,8 @@ impl<T: PoolLedger, G: Ledger> Pool<T, G> {
         self.settled = Some(settled);
     }
 
-    /// Gives the memory of its buffers back, and answers what its settlement came to; `None` exactly where it was never settled.
+    /// Gives the memory of its buffers back, and answers what its settlement came to; `None` exactly where it was never settled. The bytes of
+    /// all buffers lie in one block, which goes with the last buffer that anyone holds.
     pub fn end(self) -> Option<Settled>
         ensures { result ≡ self.settled }
     {
@@ -207,20 +213,23 @@ impl<T: PoolLedger, G: Ledger> Pool<T, G> {
     }
 }
 
-// So many empty buffers.
-fn buffers(alloc: Global, count: usize) -> Result<Vec<Buffer>, AllocError>
-    ensures len { IfOk result (λ list. vec_len list ≡ count) }
-    ensures room { IfOk result (λ list. count ≤ vec_capacity list) }
+// So many buffers. Their bytes lie in one block, which is not written yet.
+fn buffers(alloc: Global, total: u32) -> Result<Vec<Spare>, AllocError>
+    ensures len { IfOk result (λ list. vec_len list ≡ total) }
+    ensures room { IfOk result (λ list. total ≤ vec_capacity list) }
 {
-    let mut list = Vec::with_capacity(alloc, count)?;
-    for _ in 0..count {
-        list.push(Buffer::new(alloc)?)?;
+    let mut list = Vec::with_capacity(alloc, total as usize)?;
+    if total == 0 {
+        return Ok(list);
+    }
+    for plot in cut_plots(alloc, total, AREA_SIZE as u32)? {
+        list.push(Spare::made(alloc, plot)?)?;
     }
     Ok(list)
 }
 
 // Moves the last buffers of one list behind those of another.
-fn move_last(from: &mut Vec<Buffer>, to: &mut Vec<Buffer>, count: usize)
+fn move_last(from: &mut Vec<Spare>, to: &mut Vec<Spare>, count: usize)
     requires has { count ≤ vec_len from.old }
     requires room { vec_len to.old + count ≤ vec_capacity to.old }
     ensures from { vec_len from.new + count ≡ vec_len from.old }
@@ -228,9 +237,9 @@ fn move_last(from: &mut Vec<Buffer>, to: &mut Vec<Buffer>, count: usize)
     ensures room { (vec_capacity from.new ≡ vec_capacity from.old) × (vec_capacity to.new ≡ vec_capacity to.old) }
 {
     for _ in 0..count {
-        let Some(buffer) = from.pop() else {
+        let Some(spare) = from.pop() else {
             unreachable!()
         };
-        to.push_reserved(buffer);
+        to.push_reserved(spare);
     }
 }

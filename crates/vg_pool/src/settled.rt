@@ -58,14 +58,14 @@ impl Settled {
         self.total
     }
 
-    /// How many buffers `alloc` gave out of all the caches, or [`u64::MAX`] where they are more.
+    /// How many buffers `alloc` gave out of all the caches, each buffer of a chain counted, or [`u64::MAX`] where they are more.
     pub fn allocated(&self) -> u64
         ensures { result ≡ self.now.allocated }
     {
         self.allocated
     }
 
-    /// How many buffers each cache gave out and took in, in the order in which the caches were settled.
+    /// How many buffers each cache gave out and took in, each buffer of a chain counted, in the order in which the caches were settled.
     pub fn caches(&self) -> &[CacheCounts]
         ensures { result.now ≡ self.now.caches }
     {

@@ -24,7 +24,7 @@ enum Link {
 }
 
 impl Model for BufferStack {
-    ghost use Rattle.std.specs.Prelude.{List, length};
+    ghost use Rattle.std.specs.Prelude.{List};
     ghost use Rattle.vg_pool.specs.Contents.{Contents};
 
     ghost Value = { List Contents };
@@ -35,7 +35,9 @@ impl Model for BufferStack {
 
     ghost invariant = { λ s. IsLink s.top };
 
-    ghost size = { length };
+    ghost use Rattle.vg_pool.specs.Blocks.{blocks_of};
+
+    ghost size = { blocks_of };
 
     ghost use Rattle.std.proofs.Common.{arith};
 
@@ -79,6 +81,18 @@ impl BufferStack {
         }
     }
 
+    // Ends a stack with no buffer: there is nothing to give back.
+    pub(crate) fn end(self)
+        requires { self ≡ [] }
+    {
+        match self {
+            BufferStack { top: Link::Empty } => {}
+            BufferStack {
+                top: Link::Top(_block),
+            } => unreachable!(),
+        }
+    }
+
     /// The same buffers the other way round. It touches the block of each.
     pub fn reversed(mut self) -> BufferStack
         ensures { result ≡ reverse self }
@@ -105,9 +119,21 @@ impl Drop for BufferStack {
     }
 }
 
-// The buffers below a block. Its memory is given back.
+// The buffers below a block. Its memory is given back, and that of its chain.
 fn below(block: Box<Block>) -> BufferStack
     ensures { result ≡ block.value.below }
 {
-    Box::into_inner(block).below
+    let Block {
+        below,
+        rest,
+        number: _,
+        checked: _,
+        adjacency: _,
+        interface: _,
+        legs: _,
+        behind: _,
+        area: _,
+    } = Box::into_inner(block);
+    drop(rest);
+    below
 }

@@ -1,16 +1,14 @@
--- Parts of lists that grow, and what is kept of packets in them.
-use Rattle.std.proofs.Common.{◌≡◌, ℕ, ◌+◌, ◌<◌, ◌≤◌, Bool, true, false, List, [], ◌∷◌, ◌++◌, length, map, take, drop, refl, sym, ap, subst, ◌∙◌, arith, append-nil, length-append, length-drop}
-use Rattle.std.specs.Prelude.{Some, ◌&&◌, if◌then◌else◌, slice_get, slice_set, All}
-use Rattle.std.proofs.Math.Seq.{drop-append_seam}
+-- For `Trips::begin` and `Trips::keep`: parts of lists that grow, and what is kept of packets in them.
+use Rattle.std.proofs.Common.{◌≡◌, ℕ, ◌+◌, ◌≤◌, Bool, false, List, [], ◌∷◌, ◌++◌, length, map, take, drop, refl, sym, ap, subst, ◌∙◌, arith, length-append, length-drop}
+use Rattle.std.specs.Prelude.{slice_set, All}
 use Rattle.std.proofs.lemmas.Bool.{false≢true}
-use Rattle.std.proofs.lemmas.List.{take_all, take-append-le, drop-append-le, map-set}
+use Rattle.std.proofs.lemmas.List.{take-append-le, drop-append-le, map-set}
 use Rattle.std.proofs.lemmas.List.Elements.{All-tail, All-push, All-set}
-use Rattle.vg_model.specs.Packet.{Packet}
 use Rattle.vg_model.specs.Leg.{Outcome, Sent, Dropped, Handed}
 use Rattle.vg_model.specs.Journey.{Course}
 use Rattle.vg_model.specs.Valid.{AreBytes, IsPacket}
 use Rattle.vg_replay.specs.Legs.{outcome_of, IsUnlessDropped}
-use Rattle.vg_replay.specs.Parts.{part_of, course_in, whole, IsLonger, IsTripIn, HasGrown}
+use Rattle.vg_replay.specs.Parts.{part_of, course_in, IsLonger, IsTripIn, HasGrown}
 use Rattle.vg_replay.specs.Trips.{IsKeptOf}
 use Rattle.vg_replay.specs.declared.trips.Part.{Part}
 use Rattle.vg_replay.specs.declared.trips.Kept.{Kept}
@@ -35,7 +33,14 @@ course_stays old new kept grown trip =
     λ i. record {
       legs = legs i;
       outcome = outcome_of kept.outcome;
-      packet = record { number = kept.number; bytes = bytes i; checked = kept.checked; adjacency = kept.adjacency; interface = kept.interface };
+      packet = record {
+        number = kept.number;
+        bytes = bytes i;
+        room = kept.room;
+        checked = kept.checked;
+        adjacency = kept.adjacency;
+        interface = kept.interface;
+      };
       visits = visits i;
     }
 
@@ -45,6 +50,7 @@ trip_stays old new kept grown trip = record {
   bytes = longer_within old.bytes.items new.bytes.items (kept.bytes.at + kept.bytes.len) grown.bytes trip.bytes;
   visits = longer_within old.visits.items new.visits.items (kept.visits.at + kept.visits.len) grown.visits trip.visits;
   few = trip.few;
+  room = trip.room;
   short = trip.short;
   possible = subst (λ (c : Course). IsPacket c.packet) (sym (course_stays old new kept grown trip)) trip.possible;
 }
@@ -83,15 +89,17 @@ pub one_kept : (lists : Lists) (kept more : List Kept) (one : Kept) → All (IsT
 one_kept lists kept more one all is trip = subst (All (IsTripIn lists)) (sym is) (All-push (IsTripIn lists) kept one all trip)
 
 -- one that has done no leg
-pub none_within : (lists : Lists) (kept : Kept) → kept.legs.at + kept.legs.len ≡ 0 → kept.bytes.at + kept.bytes.len ≡ 0 → kept.visits.at + kept.visits.len ≡ 0 → kept.checked ≡ false → IsTripIn lists kept
-none_within lists kept legs bytes visits unchecked =
+pub none_within : (lists : Lists) (kept : Kept) → kept.legs.at + kept.legs.len ≡ 0 → kept.bytes.at + kept.bytes.len ≡ 0 → kept.visits.at + kept.visits.len ≡ 0 → kept.room ≡ 64 → kept.checked ≡ false
+    → IsTripIn lists kept
+none_within lists kept legs bytes visits fresh unchecked =
     let none : part_of kept.bytes lists.bytes.items ≡ [] = ap (λ n. take n (drop kept.bytes.at lists.bytes.items)) (let e : kept.bytes.len ≡ 0 = omega (arith, bytes) in e) in
     record {
       legs = omega (arith, legs);
       bytes = omega (arith, bytes);
       visits = omega (arith, visits);
       few = omega (arith, legs);
-      short = omega (arith, bytes);
+      room = omega (arith, fresh);
+      short = omega (arith, bytes, fresh);
       possible = record {
         bytes = subst AreBytes (sym none) tt;
         sound = λ h. absurd (false≢true (sym unchecked ∙ h));

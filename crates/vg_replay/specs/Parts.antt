@@ -2,7 +2,7 @@
 use Rattle.std.specs.Prelude.{◌≡◌, ◌+◌, ◌≤◌, ◌++◌, Bool, true, false, List, length, take, drop}
 use Rattle.vg_model.specs.Leg as model
 use Rattle.vg_model.specs.Journey.{Course}
-use Rattle.vg_model.specs.Valid.{IsPacket}
+use Rattle.vg_model.specs.Valid.{IsPacket, most_room, most_extent}
 use Rattle.vg_replay.specs.Legs.{outcome_of}
 use Rattle.vg_replay.specs.declared.trips.Part.{Part}
 use Rattle.vg_replay.specs.declared.trips.Kept.{Kept}
@@ -17,17 +17,25 @@ abbrev pub course_in : Lists → Kept → Course
 course_in lists kept = record {
   legs = part_of kept.legs lists.legs.items;
   outcome = outcome_of kept.outcome;
-  packet = record { number = kept.number; bytes = part_of kept.bytes lists.bytes.items; checked = kept.checked; adjacency = kept.adjacency; interface = kept.interface };
+  packet = record {
+    number = kept.number;
+    bytes = part_of kept.bytes lists.bytes.items;
+    room = kept.room;
+    checked = kept.checked;
+    adjacency = kept.adjacency;
+    interface = kept.interface;
+  };
   visits = part_of kept.visits lists.visits.items;
 }
 
--- the parts are there, and the packet may be and fits a buffer
+-- the parts are there, and the packet may be and fits a chain of the most buffers
 pub record IsTripIn (lists : Lists) (kept : Kept) : Type 0 where
   pub legs : kept.legs.at + kept.legs.len ≤ length lists.legs.items
   pub bytes : kept.bytes.at + kept.bytes.len ≤ length lists.bytes.items
   pub visits : kept.visits.at + kept.visits.len ≤ length lists.visits.items
   pub few : kept.legs.len ≤ 4
-  pub short : kept.bytes.len ≤ 2048
+  pub room : kept.room ≤ most_room
+  pub short : kept.bytes.len + kept.room ≤ most_extent
   pub possible : IsPacket (course_in lists kept).packet
 
 -- more is kept of a packet that ended its leg so than that it was dropped

@@ -7,13 +7,13 @@ ghost use Rattle.vg_model.specs.Packet.{fresh};
 ghost use Rattle.vg_model.specs.Valid.{IsPacket, IsStepOf, IsTarget, IsValid};
 ghost use Rattle.vg_replay.specs.Legs.{move_as, IsLeg, MayBeLeg};
 
+use crate::chains::{Chain, know_contents};
 use std::alloc::AllocError;
 use vg_fork::Fork;
 use vg_model::limits::{LONGEST_PACKET, MOST_LEGS};
 use vg_model::start::{FIRST_SLOT, PG_INPUT};
 use vg_model::{DropError, Step};
 use vg_nodes::KindSet;
-use vg_pool::Buffer;
 
 /// How a leg ends.
 #[derive(Clone, Copy, Debug, PartialEq, Eq)]
@@ -91,7 +91,7 @@ fn walk_leg<K: KindSet>(
     fork: &Fork,
     at: LegAt,
     first: u16,
-    buffer: &mut Buffer,
+    buffer: &mut Chain,
     visits: &mut Vec<u16>,
 ) -> Result<Outcome, AllocError>
     requires valid { IsValid fork.now.graph }
@@ -103,7 +103,7 @@ fn walk_leg<K: KindSet>(
     let mut node = first;
     'nodes: loop {
         visits.push(node)?;
-        let step = kinds.visit(fork, node, buffer);
+        let step = buffer.visit(kinds, fork, node);
         match move_of(fork, at, node, step) {
             Move::Onward { node: next } => node = next,
             Move::Over { outcome } => return Ok(outcome),
@@ -130,7 +130,7 @@ pub(crate) fn leg_from<K: KindSet>(
     at: LegAt,
     first: u16,
     via: u16,
-    buffer: &mut Buffer,
+    buffer: &mut Chain,
     visits: &mut Vec<u16>,
 ) -> Result<Option<Outcome>, AllocError>
     requires valid { IsValid fork.now.graph }
@@ -154,7 +154,7 @@ pub(crate) fn first_leg<K: KindSet>(
     at: LegAt,
     number: u32,
     bytes: &[u8],
-    buffer: &mut Buffer,
+    buffer: &mut Chain,
     visits: &mut Vec<u16>,
 ) -> Result<Option<Outcome>, AllocError>
     requires valid { IsValid fork.now.graph }
@@ -175,9 +175,9 @@ pub(crate) fn first_leg<K: KindSet>(
     leg_from(kinds, fork, at, PG_INPUT, PG_INPUT, buffer, visits)
 }
 
-/// The packet of a buffer may be.
-pub(crate) fn know_possible(buffer: &Buffer)
+/// The packet of a chain may be.
+pub(crate) fn know_possible(buffer: &Chain)
     ensures { IsPacket buffer.now.packet }
 {
-    let _bytes = buffer.bytes();
+    know_contents(buffer.as_buffer());
 }

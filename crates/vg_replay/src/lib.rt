@@ -5,6 +5,7 @@
 //! taken generation by generation, so that one fork is there at a time; a packet whose next leg is of a later generation waits.
 #![tactic(auto)]
 
+mod chains;
 mod counting;
 mod inputs;
 pub mod legs;

@@ -44,10 +44,10 @@ fn fork_of(
     ensures { IfOk result (λ fork. fork ≡ record { graph = master.now; generation = generation }) }
 {
     let graph = master.graph();
-    let fib = master.fib();
+    let (fib, fib6) = (master.fib(), master.fib6());
     match before {
-        Some(fork) => fork.renewed(alloc, graph, fib, generation),
-        None => Fork::of(alloc, graph, fib, generation),
+        Some(fork) => fork.renewed(alloc, graph, fib, fib6, generation),
+        None => Fork::of(alloc, graph, fib, fib6, generation),
     }
 }
 

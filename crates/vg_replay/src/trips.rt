@@ -1,15 +1,18 @@
 //! How far packets have come.
 ghost use Rattle.std.specs.Prelude.{◌≡◌, ◌+◌, ◌<◌, ◌≤◌, ◌++◌, [], ◌∷◌, ℕ, length, slice_get, slice_set, if◌then◌else◌, IfOk, OnOk, OnErr};
-ghost use Rattle.vg_model.specs.Journey.{Course};
+ghost use Rattle.vg_model.specs.Journey.{Course, longest_extent};
+ghost use Rattle.vg_model.specs.Valid.{extent};
 ghost use Rattle.vg_replay.specs.Courses.{in_hand};
 ghost use Rattle.vg_replay.specs.Legs.{outcome_of};
 ghost use Rattle.vg_replay.specs.Parts.{part_of, course_in, whole, IsTripIn, HasGrown};
 ghost use Rattle.vg_replay.specs.Trips.{begun, IsKeptOf};
 
-use crate::legs::{Outcome, know_possible};
+use crate::chains::{Chain, know_contents};
+use crate::legs::Outcome;
 use crate::walkers::Walker;
 use std::alloc::{AllocError, Global};
 use std::marker::Model;
+use vg_model::limits::FIRST_ROOM;
 use vg_model::{Leg, Legs};
 use vg_pool::Buffer;
 
@@ -49,6 +52,24 @@ fn append<T: Copy>(list: &mut Vec<T>, more: &[T], is_wanted: bool) -> Result<Par
     Ok(Part { at, len })
 }
 
+// Adds the bytes of a packet behind a list, or none, and tells where they stand.
+fn append_packet(list: &mut Vec<u8>, buffer: &Buffer, is_wanted: bool) -> Result<Part, AllocError>
+    ensures place { IfOk result (λ place. (place.at ≡ length list.old.items) × (place.len ≡ length (if is_wanted then buffer.now.packet.bytes else []))) }
+    ensures ok { OnOk result (list.new.items ≡ list.old.items ++ (if is_wanted then buffer.now.packet.bytes else [])) }
+    ensures err { OnErr result (list.new.items ≡ list.old.items) }
+{
+    if !is_wanted {
+        return append(list, &[], false);
+    }
+    let Ok(at) = u32::try_from(list.len()) else {
+        return Err(AllocError);
+    };
+    let len = buffer.len();
+    list.reserve(len as usize)?;
+    buffer.copy_into(list);
+    Ok(Part { at, len })
+}
+
 /// What is kept of a packet, by places in the lists of all.
 #[derive(Clone, Copy)]
 pub(crate) struct Kept {
@@ -56,6 +77,7 @@ pub(crate) struct Kept {
     legs: Part,
     outcome: Outcome,
     bytes: Part,
+    room: u32,
     checked: bool,
     adjacency: Option<u16>,
     interface: Option<u16>,
@@ -87,17 +109,18 @@ impl Lists {
         ensures kept { IfOk result (λ kept. IsKeptOf with_visits number (in_hand walker.now) (course_in self.new kept)) }
         ensures trip { IfOk result (IsTripIn self.new) }
     {
-        let buffer = &walker.buffer;
-        know_possible(buffer);
+        let buffer = walker.buffer.as_buffer();
+        know_contents(buffer);
         let is_whole = is_whole(walker.outcome);
         let legs = append(&mut self.legs, walker.legs.as_slice(), true)?;
-        let bytes = append(&mut self.bytes, buffer.bytes(), is_whole)?;
+        let bytes = append_packet(&mut self.bytes, buffer, is_whole)?;
         let visits = append(&mut self.visits, walker.visits.as_slice(), with_visits)?;
         Ok(Kept {
             number,
             legs,
             outcome: walker.outcome,
             bytes,
+            room: buffer.room(),
             checked: is_whole && buffer.checked(),
             adjacency: buffer.adjacency(),
             interface: buffer.interface(),
@@ -162,6 +185,7 @@ impl Trips {
             legs: part_at(self.lists.legs.as_slice(), kept.legs),
             outcome: kept.outcome,
             bytes: part_at(self.lists.bytes.as_slice(), kept.bytes),
+            room: kept.room,
             checked: kept.checked,
             adjacency: kept.adjacency,
             interface: kept.interface,
@@ -178,6 +202,7 @@ impl Trips {
             legs: NOTHING,
             outcome: Outcome::Sent { interface: 0 },
             bytes: NOTHING,
+            room: FIRST_ROOM as u32,
             checked: false,
             adjacency: None,
             interface: None,
@@ -211,6 +236,7 @@ pub struct Trip<'a> {
     legs: &'a [Leg],
     outcome: Outcome,
     bytes: &'a [u8],
+    room: u32,
     checked: bool,
     adjacency: Option<u16>,
     interface: Option<u16>,
@@ -247,7 +273,7 @@ impl<'a> Trip<'a> {
     /// The packet's bytes.
     pub fn bytes(&self) -> &'a [u8]
         ensures bytes { result.now ≡ self.now.packet.bytes }
-        ensures few { length result.now ≤ 2048 }
+        ensures few { extent self.now.packet ≤ longest_extent }
     {
         self.bytes
     }
@@ -260,10 +286,10 @@ impl<'a> Trip<'a> {
     }
 
     // Puts the packet into a buffer, as it is.
-    pub(crate) fn load(&self, buffer: &mut Buffer)
+    pub(crate) fn load(&self, buffer: &mut Chain)
         ensures { buffer.new.packet ≡ self.now.packet }
     {
-        buffer.fill(self.number, self.bytes);
+        buffer.lay(self.number, self.room, self.bytes);
         if let Some(adjacency) = self.adjacency {
             buffer.set_adjacency(adjacency);
         }

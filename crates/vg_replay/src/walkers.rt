@@ -5,21 +5,19 @@ ghost use Rattle.vg_model.specs.Packet.{fresh};
 ghost use Rattle.vg_model.specs.Valid.{IsValid};
 ghost use Rattle.vg_replay.specs.Courses.{in_hand, MayBegin, MayGoOn};
 
+use crate::chains::Chain;
 use crate::legs::{LegAt, Outcome, first_leg, know_possible, leg_from};
 use crate::trips::{Trip, copied};
 use std::alloc::{AllocError, Global};
-use std::marker::Brand;
-use std::sync::ledger::{Blank, Ledger};
 use vg_fork::Fork;
 use vg_model::start::HANDOFF_DEQUEUE;
 use vg_model::{Leg, Legs, Memory};
 use vg_nodes::KindSet;
-use vg_pool::{Buffer, Pool, PoolLedger};
 
 /// The packet that is walked: in its buffer, with the legs that it has done, how the last of them ended, and the nodes that it visited.
 #[derive(Drop)]
 pub(crate) struct Walker {
-    pub buffer: Buffer,
+    pub buffer: Chain,
     pub legs: Legs,
     pub outcome: Outcome,
     pub visits: Vec<u16>,
@@ -29,7 +27,7 @@ impl Walker {
     // No packet yet.
     pub(crate) fn new(alloc: Global) -> Result<Walker, Memory> {
         Ok(Walker {
-            buffer: only_buffer(alloc)?,
+            buffer: Chain::new(alloc)?,
             legs: Legs::new(),
             outcome: Outcome::Sent { interface: 0 },
             visits: Vec::new(alloc),
@@ -129,31 +127,5 @@ impl Walker {
             generation: fork.generation(),
         });
         Ok(true)
-    }
-}
-
-// The buffer of a pool of one.
-fn only_buffer(alloc: Global) -> Result<Buffer, Memory> {
-    first_buffer::<Brand, Brand>(alloc, Blank::new(1), Blank::new(1))
-}
-
-// The same, where these two ledgers count what is taken from the pool and given back.
-fn first_buffer<T: PoolLedger, G: Ledger>(
-    alloc: Global,
-    taken: Blank,
-    given: Blank,
-) -> Result<Buffer, Memory>
-    requires total { T.total ≡ 1 }
-    requires taken { (taken.name ≡ T.name) × (taken.parts ≡ T.parts) × (taken.parts ≡ 1) }
-    requires given { (given.name ≡ G.name) × (given.parts ≡ G.parts) × (given.parts ≡ 1) }
-{
-    let (mut pool, mut caches) = Pool::<T, G>::new(alloc, 1, 1, taken, given)?;
-    let Some(mut cache) = caches.pop() else {
-        return Err(Memory);
-    };
-    let _count = pool.take(1, &mut cache);
-    match cache.alloc() {
-        Some(buffer) => Ok(buffer),
-        None => Err(Memory),
     }
 }

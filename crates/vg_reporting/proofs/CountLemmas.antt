@@ -1,4 +1,4 @@
--- Lists of counts, entry by entry.
+-- For `interfaces`, `nodes`, `errors` and `put_errors`: lists of counts, entry by entry.
 use Rattle.std.proofs.Common.{◌≡◌, ℕ, suc, ◌+◌, ◌<◌, ◌≤◌, Bool, true, false, cond, List, [], ◌∷◌, ◌++◌, length, map, take, refl, sym, ap, ◌∙◌, arith, append-nil, append_assoc}
 use Rattle.std.specs.Prelude.{slice_get, slice_index, Some, filter, flat_map, nat_lt}
 use Rattle.std.specs.List.{enumerate_from}

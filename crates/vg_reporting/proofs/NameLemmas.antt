@@ -1,4 +1,4 @@
--- Ends by the names of a graph's interfaces and nodes.
+-- For `interface_names`, `node_names` and `lines`: ends by the names of a graph's interfaces and nodes.
 use Rattle.std.proofs.Common.{◌≡◌, ℕ, ◌+◌, List, [], ◌∷◌, ◌++◌, map, take, refl, sym, ap, subst, ◌∙◌, arith}
 use Rattle.std.specs.Prelude.{Some, slice_get, option_map, unwrap_or}
 use Rattle.std.specs.List.{AllByRecursion}

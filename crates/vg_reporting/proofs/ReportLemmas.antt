@@ -1,4 +1,4 @@
--- The report of what a run comes to is that of its journeys.
+-- For `forward` of `vg_top`: the report of what a run comes to is that of its journeys.
 use Rattle.std.proofs.Common.{◌≡◌, ℕ, ◌+◌, List, [], ◌∷◌, ◌++◌, map, refl, ap}
 use Rattle.std.specs.Prelude.{filter, flat_map, nat_lt, slice_index}
 use Rattle.std.specs.List.{enumerate_from}

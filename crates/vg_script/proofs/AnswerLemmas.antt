@@ -10,13 +10,13 @@ use Rattle.vg_model.specs.Name.{IsName}
 use Rattle.vg_model.specs.Valid.{IsMac}
 use Rattle.vg_script.specs.declared.errors.ScriptCause.{ScriptCause}
 use Rattle.vg_script.specs.declared.errors.ScriptCause.TheVariants as causes
-use Rattle.vg_script.specs.Classes.{name_of, number_of, mac_of, prefix_of, kind_of}
+use Rattle.vg_script.specs.Classes.{name_of, names_of, number_of, mac_of, prefix_of, prefix6_of, kind_of}
 use Rattle.vg_script.specs.Lawful.{IsLawfulEdit, IsEdit, IsTarget}
 use Rattle.vg_script.specs.declared.statements.Statement.{Statement}
 use Rattle.vg_script.specs.declared.statements.Statement.TheVariants.{Change, At, Process, Then, End}
-use Rattle.vg_script.specs.Statements.{Words, Form, read_on, ◌>>=◌, gives, end_of_line, a_word, or_else, a_word_of, a_name, a_mac, a_prefix, a_kind, a_number, fixed, up_or_down, filter_or_nothing, target_by, a_target, interface_form, node_form, arc_form, adjacency_form, route_form, unroute_form}
-use Rattle.vg_script.specs.Statements.{change, at_form, process_form, alone, Row, rows, row_of}
-use Rattle.vg_script.proofs.ValueLemmas.{name_value, IsWithin, number_value, mac_value, HasAddress, prefix_value, kind_value, found_has}
+use Rattle.vg_script.specs.Statements.{Words, Form, read_on, ◌>>=◌, gives, end_of_line, a_word, or_else, a_word_of, a_name, some_names, a_mac, a_prefix, a_prefix6, a_kind, a_number, fixed, up_or_down, filter_or_nothing, target_by, a_target}
+use Rattle.vg_script.specs.Statements.{interface_form, node_form, arc_form, adjacency_form, route_form, unroute_form, route6_form, unroute6_form, change, at_form, process_form, alone, Row, rows, row_of}
+use Rattle.vg_script.proofs.ValueLemmas.{name_value, AreNames, names_value, IsWithin, number_value, mac_value, HasAddress, prefix_value, HasAddress6, prefix6_value, kind_value, found_has}
 
 -- an answer has this property, or its cause isn't want of memory
 abbrev pub IsAnswer : {X : Type 0} → (X → Type 0) → Result (X × Words) ScriptCause → Type 0
@@ -113,10 +113,13 @@ cond_answers : {X : Type 0} (P : X → Type 0) (b : Bool) (f g : Form X) → Ans
 cond_answers P true f g p q = p
 cond_answers P false f g p q = q
 
+answers_names : Answers AreNames some_names
+answers_names = answers_class AreNames names_of causes.Name (λ e. cc) names_value
+
 answers_target_by : (word : List ℕ) → Answers IsTarget (target_by word)
 answers_target_by word =
-    cond_answers IsTarget (bytes_eq word (codes "via")) (a_name >>= λ name. gives (targets.Via name)) _
-    (answers_then IsName IsTarget a_name (λ name. gives (targets.Via name)) answers_name (λ name p ws. p))
+    cond_answers IsTarget (bytes_eq word (codes "via")) (some_names >>= λ names. gives (targets.Via names)) _
+    (answers_then AreNames IsTarget some_names (λ names. gives (targets.Via names)) answers_names (λ names p ws. p))
     (cond_answers IsTarget (bytes_eq word (codes "local")) (gives targets.Local) _ (λ ws. tt)
     (cond_answers IsTarget (bytes_eq word (codes "drop")) (gives targets.Drop) (or_else None causes.Word) (λ ws. tt) (λ ws e. cc)))
 
@@ -173,6 +176,20 @@ answers_unroute =
     answers_then HasAddress IsGoodEdit a_prefix _ answers_prefix (λ prefix p.
     answers_then Any IsGoodEdit end_of_line _ answers_end (λ u k ws. (tt, p)))
 
+answers_prefix6 : Answers HasAddress6 a_prefix6
+answers_prefix6 = answers_class HasAddress6 prefix6_of causes.Prefix (λ e. cc) prefix6_value
+
+answers_route6 : Answers IsGoodEdit route6_form
+answers_route6 =
+    answers_then HasAddress6 IsGoodEdit a_prefix6 _ answers_prefix6 (λ prefix p.
+    answers_then IsTarget IsGoodEdit a_target _ answers_target (λ to t.
+    answers_then Any IsGoodEdit end_of_line _ answers_end (λ u k ws. (tt, (p, t)))))
+
+answers_unroute6 : Answers IsGoodEdit unroute6_form
+answers_unroute6 =
+    answers_then HasAddress6 IsGoodEdit a_prefix6 _ answers_prefix6 (λ prefix p.
+    answers_then Any IsGoodEdit end_of_line _ answers_end (λ u k ws. (tt, p)))
+
 -- a statement that a script can say
 abbrev pub IsGoodStatement : Statement → Type 0
 IsGoodStatement (Change edit) = IsGoodEdit edit
@@ -223,7 +240,13 @@ rows_answer = (
           answers_change route_form answers_route,
           (
             answers_change unroute_form answers_unroute,
-            (answers_at, (answers_process, (answers_alone Then tt, (answers_alone End tt, tt)))),
+            (
+              answers_change route6_form answers_route6,
+              (
+                answers_change unroute6_form answers_unroute6,
+                (answers_at, (answers_process, (answers_alone Then tt, (answers_alone End tt, tt)))),
+              ),
+            ),
           ),
         ),
       ),

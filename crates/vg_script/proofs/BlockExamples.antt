@@ -36,7 +36,7 @@ abbrev to_drop : List Edit
 to_drop = edits.Route (prefix 0x0a000000 8 tt tt) targets.Drop ∷ []
 
 abbrev to_east : List Edit
-to_east = edits.Route (prefix 0x0a000000 8 tt tt) (targets.Via (codes "east")) ∷ []
+to_east = edits.Route (prefix 0x0a000000 8 tt tt) (targets.Via (codes "east" ∷ [])) ∷ []
 
 abbrev to_us : List Edit
 to_us = edits.Route (prefix 0x0a000000 8 tt tt) targets.Local ∷ []
@@ -92,7 +92,7 @@ one_block_is_read : script_of (text_of (
     ∷ []))
     ≡ Ok (record {
       start =
-          from_line 1 (edits.Adjacency (codes "east") (codes "pg0") (mac 9) ∷ edits.Route (prefix 0 0 tt tt) (targets.Via (codes "east")) ∷ []);
+          from_line 1 (edits.Adjacency (codes "east") (codes "pg0") (mac 9) ∷ edits.Route (prefix 0 0 tt tt) (targets.Via (codes "east" ∷ [])) ∷ []);
       blocks = blocks.At 3 1000 (from_line 4 (edits.Route (prefix 0 0 tt tt) targets.Drop ∷ [])) ∷ [];
     })
 unfolding row_of

@@ -1,5 +1,5 @@
--- For `number`, `pair`, `mac`, `address`, `prefix` and `name`: the classes of words, in the steps in which they are read.
-use Rattle.std.proofs.Common.{◌≡◌, ℕ, suc, ◌-◌, ◌%◌, ◌^◌, ◌<◌, ◌≤◌, Bool, true, false, cond, not, ◌&&◌, ◌||◌, ltb, leb, eqb, List, [], ◌∷◌, length, drop, get_or}
+-- For `number`, `pair`, `group`, `mac`, `address`, `prefix`, `prefix6`, `vlan_behind` and `name`: the classes of words, in the steps in which they are read.
+use Rattle.std.proofs.Common.{◌≡◌, ◌≢◌, ℕ, suc, ◌-◌, ◌%◌, ◌^◌, ◌<◌, ◌≤◌, Bool, true, false, cond, not, ◌&&◌, ◌||◌, ltb, leb, eqb, List, [], ◌∷◌, length, drop, get_or}
 use Rattle.std.proofs.Common.{refl, sym, ap, subst, ◌∙◌, arith, true≢false, ltb-true, lt-ltb, le-leb, leb-true, eq-eqb, ne_eqb, IsUtf8, rules, ◌==◌}
 use Rattle.std.proofs.Math.Dec.{T}
 use Rattle.std.proofs.Math.Facts.{leb_yes, eqb_yes}
@@ -8,7 +8,7 @@ use Rattle.std.proofs.lemmas.Bool.{and_parts, and_from, and_right, lt-leb}
 use Rattle.std.specs.Prelude.{Option, Some, None, is_some, IfSome, ◌↔◌, Result, Ok, Err}
 use Rattle.std.specs.Char.{is_ascii_digit, is_ascii_hexdigit, digit_value}
 use Rattle.std.specs.List.{before_first, after_first, list_all, AllPass}
-use Rattle.std.specs.Str.Parse.{digits_value, IsNumeral, ParsesUnsigned}
+use Rattle.std.specs.Str.Parse.{AllDigits, digits_value, IsNumeral, ParsesUnsigned}
 use Rattle.std.proofs.Math.Bridge.{le_prop}
 use Rattle.std.proofs.Math.Nat.{ℕ_set}
 use Rattle.std.proofs.lemmas.Bool.Decides.{nat_tests}
@@ -18,7 +18,10 @@ use Rattle.std.proofs.lemmas.Str.{IsUtf8-from_ascii}
 use Rattle.std.proofs.lemmas.Str.Parse.{IsNumeralModel, numerals_by_value, parse_digits}
 use Rattle.vg_model.specs.Name.{IsName, is_name, is_name_byte}
 use Rattle.vg_model.specs.declared.routes.Prefix.{Prefix}
-use Rattle.vg_script.specs.Classes.{◌>>=◌, is_decimal, number_of, parted_by, pair_of, address_of, given, prefix, prefix_of, name_of}
+use Rattle.vg_model.specs.declared.routes.Prefix6.{Prefix6}
+use Rattle.vg_model.specs.declared.vlans.VlanId.{VlanId}
+use Rattle.vg_script.specs.Address6.{group_of, address6_of}
+use Rattle.vg_script.specs.Classes.{◌>>=◌, is_decimal, number_of, parted_by, pair_of, address_of, given, prefix, prefix_of, prefix6, prefix6_of, vlan_of, name_of}
 use native.Mathlib.Decide.{dec_lt}
 
 -- bytes that pass a test which only ASCII passes are UTF-8
@@ -124,6 +127,76 @@ pair_small (high ∷ low ∷ []) two all =
     let second : digit_value low < 16 = hex_value low (and_parts (is_ascii_hexdigit low) true parts.1).0 in
     omega (arith, first, second)
 
+-- a group of hexadecimal digits is read as such
+pub group_small : (text : List ℕ) → length text ≤ 4 → list_all is_ascii_hexdigit text ≡ true → digits_value 16 text < 65536
+group_small [] few all = omega arith
+group_small (a ∷ []) few all =
+    let first : digit_value a < 16 = hex_value a (and_parts (is_ascii_hexdigit a) true all).0 in
+    omega (arith, first)
+group_small (a ∷ b ∷ []) few all =
+    let p = and_parts (is_ascii_hexdigit a) _ all in
+    let first : digit_value a < 16 = hex_value a p.0 in
+    let second : digit_value b < 16 = hex_value b (and_parts (is_ascii_hexdigit b) true p.1).0 in
+    omega (arith, first, second)
+group_small (a ∷ b ∷ c ∷ []) few all =
+    let p = and_parts (is_ascii_hexdigit a) _ all in
+    let q = and_parts (is_ascii_hexdigit b) _ p.1 in
+    let first : digit_value a < 16 = hex_value a p.0 in
+    let second : digit_value b < 16 = hex_value b q.0 in
+    let third : digit_value c < 16 = hex_value c (and_parts (is_ascii_hexdigit c) true q.1).0 in
+    omega (arith, first, second, third)
+group_small (a ∷ b ∷ c ∷ d ∷ []) few all =
+    let p = and_parts (is_ascii_hexdigit a) _ all in
+    let q = and_parts (is_ascii_hexdigit b) _ p.1 in
+    let r = and_parts (is_ascii_hexdigit c) _ q.1 in
+    let first : digit_value a < 16 = hex_value a p.0 in
+    let second : digit_value b < 16 = hex_value b q.0 in
+    let third : digit_value c < 16 = hex_value c r.0 in
+    let fourth : digit_value d < 16 = hex_value d (and_parts (is_ascii_hexdigit d) true r.1).0 in
+    omega (arith, first, second, third, fourth)
+group_small (a ∷ b ∷ c ∷ d ∷ e ∷ others) few all = absurd (omega (arith, few))
+
+each_hex : (text : List ℕ) → list_all is_ascii_hexdigit text ≡ true → AllDigits 16 text
+each_hex [] all = tt
+each_hex (byte ∷ bytes) all =
+    let both = and_parts (is_ascii_hexdigit byte) (list_all is_ascii_hexdigit bytes) all in
+    (hex_value byte both.0, each_hex bytes both.1)
+
+-- a text of 1 to 4 hexadecimal digits
+pub record IsGroup (text : List ℕ) : Type 0 where
+  pub some : 0 < length text
+  pub few : length text ≤ 4
+  pub digits : list_all is_ascii_hexdigit text ≡ true
+
+group_is_read : (E : Type 0) (text : List ℕ) (r : Result ℕ E) → IsGroup text → ParsesUnsigned 16 16 text r → r ≡ Ok (digits_value 16 text)
+group_is_read E [] r is read = absurd (omega (arith, is.some))
+group_is_read E (byte ∷ bytes) r is read =
+    by_result r (subst (λ b. OkIff r (IsNumeral 16 (drop (cond b 1 0) (byte ∷ bytes)) × (digits_value 16 (drop (cond b 1 0) (byte ∷ bytes)) < 2 ^ 16)) (digits_value 16 (drop (cond b 1 0) (byte ∷ bytes))))
+    (hex_no_plus byte (and_parts (is_ascii_hexdigit byte) _ is.digits).0) read)
+  where
+    by_result : (r : Result ℕ E) → OkIff r (IsNumeral 16 (byte ∷ bytes) × (digits_value 16 (byte ∷ bytes) < 2 ^ 16)) (digits_value 16 (byte ∷ bytes))
+        → r ≡ Ok (digits_value 16 (byte ∷ bytes))
+    by_result (Ok x) h = ap Ok h.1
+    by_result (Err e) h = absurd (h ((omega arith, each_hex (byte ∷ bytes) is.digits), group_small (byte ∷ bytes) is.few is.digits))
+
+pub group-of : (text : List ℕ) → IsGroup text → group_of text ≡ Some (digits_value 16 text)
+group-of text is =
+    ap (λ b. cond b (Some (digits_value 16 text)) None)
+    (and_from (ltb 0 (length text) && leb (length text) 4) (list_all is_ascii_hexdigit text)
+    (and_from (ltb 0 (length text)) (leb (length text) 4) (lt-ltb 0 (length text) is.some) (le-leb (length text) 4 is.few)) is.digits)
+
+pub group_ok : {E : Type 0} (text : List ℕ) (r : Result ℕ E) (group : ℕ) → IsGroup text → ParsesUnsigned 16 16 text r → r ≡ Ok group
+    → Some group ≡ group_of text
+group_ok {E} text r group is h ok =
+    let read : r ≡ Ok (digits_value 16 text) = group_is_read E text r is h in
+    let same : group ≡ digits_value 16 text = cc in
+    ap Some same ∙ sym (group-of text is)
+
+pub group_err : {E : Type 0} (text : List ℕ) (r : Result ℕ E) (e : E) → IsGroup text → ParsesUnsigned 16 16 text r → r ≡ Err e → None ≡ group_of text
+group_err {E} text r e is h err =
+    let read : r ≡ Ok (digits_value 16 text) = group_is_read E text r is h in
+    absurd cc
+
 -- several digits without a zero in front
 pub long_decimal : (word : List ℕ) → 0 < length word → list_all is_ascii_digit word ≡ true → (length word ≡ 1 → ⊥)
     → not (eqb (get_or word 0 0) 48) ≡ is_decimal word
@@ -193,6 +266,20 @@ given_no false f h = refl
 passes : (b : Bool) → b ≡ true → T b
 passes b h = subst T (sym h) tt
 
+-- a VLAN id is its number: it has its facts in one way
+vlan_with : (number : ℕ) → 1 ≤ number → number ≤ 4094 → VlanId
+vlan_with number some few = record { number = number; some = some; few = few }
+
+pub vlan_is : (id : VlanId) → vlan_of id.number ≡ Some id
+unfolding vlan_with
+vlan_is id =
+    let some : T (leb 1 id.number) = passes (leb 1 id.number) (le-leb 1 id.number id.some) in
+    let few : T (leb id.number 4094) = passes (leb id.number 4094) (le-leb id.number 4094 id.few) in
+    given_yes (leb 1 id.number) _ some
+    ∙ given_yes (leb id.number 4094) _ few
+    ∙ ap (λ s. Some (vlan_with id.number s (leb_yes few))) (le_prop (leb_yes some) id.some)
+    ∙ ap (λ f. Some (vlan_with id.number id.some f)) (le_prop (leb_yes few) id.few)
+
 -- a name, by the test
 pub name_by_test : (word : List ℕ) → is_name word ≡ true → IsName word
 name_by_test word h =
@@ -205,6 +292,14 @@ named word name =
     and_from (leb 1 (length word) && leb (length word) 32) (list_all is_name_byte word)
     (and_from (leb 1 (length word)) (leb (length word) 32) (le-leb 1 (length word) name.some) (le-leb (length word) 32 name.few))
     (list_all-from_AllPass is_name_byte word name.each)
+
+-- a word that is cut at its `/`: in front stands this address, behind it this length
+pub record HasAddressAndLength (address : List ℕ → Option ℕ) (most : ℕ) (word : List ℕ) (addr len : ℕ) : Type 0 where
+  pub front : List ℕ
+  pub back : List ℕ
+  pub cut : IsCutAt 47 word front back
+  pub addr_is : Some addr ≡ address front
+  pub len_is : Some len ≡ number_of 0 most back
 
 -- a prefix of these bits
 abbrev pub prefix_with : (addr len : ℕ) → len ≤ 32 → addr % 2 ^ (32 - len) ≡ 0 → Prefix
@@ -220,39 +315,73 @@ one_fact addr len few few' host host' =
 given_prefix : ℕ → ℕ → Option Prefix
 given_prefix addr len = given (leb len 32) (λ few. given (eqb (addr % 2 ^ (32 - len)) 0) (λ host_bits. Some (prefix addr len few host_bits)))
 
-prefix_parts : (word front back : List ℕ) (addr len : ℕ)
-    → front ≡ before_first (λ byte. byte == 47) word → back ≡ after_first (λ byte. byte == 47) word
-    → Some addr ≡ address_of front → Some len ≡ number_of 0 32 back → prefix_of word ≡ given_prefix addr len
+prefix_parts : (word : List ℕ) (addr len : ℕ) → HasAddressAndLength address_of 32 word addr len → prefix_of word ≡ given_prefix addr len
 unfolding given_prefix
-prefix_parts word front back addr len at_front at_back addr_read len_read =
-    ap (λ t. address_of t >>= λ a. number_of 0 32 (after_first (λ byte. byte == 47) word) >>= λ l. given_prefix a l) (sym at_front)
-    ∙ ap (λ t. address_of front >>= λ a. number_of 0 32 t >>= λ l. given_prefix a l) (sym at_back)
-    ∙ ap (λ o. o >>= λ a. number_of 0 32 back >>= λ l. given_prefix a l) (sym addr_read)
-    ∙ ap (λ o. o >>= λ l. given_prefix addr l) (sym len_read)
+prefix_parts word addr len has =
+    ap (λ t. address_of t >>= λ a. number_of 0 32 (after_first (λ byte. byte == 47) word) >>= λ l. given_prefix a l) (sym has.cut.before)
+    ∙ ap (λ t. address_of has.front >>= λ a. number_of 0 32 t >>= λ l. given_prefix a l) (sym has.cut.after)
+    ∙ ap (λ o. o >>= λ a. number_of 0 32 has.back >>= λ l. given_prefix a l) (sym has.addr_is)
+    ∙ ap (λ o. o >>= λ l. given_prefix addr l) (sym has.len_is)
 
-pub prefix_read : (word front back : List ℕ) (addr len : ℕ)
-    → front ≡ before_first (λ byte. byte == 47) word → back ≡ after_first (λ byte. byte == 47) word
-    → Some addr ≡ address_of front → Some len ≡ number_of 0 32 back
-    → (few : len ≤ 32) (host : addr % 2 ^ (32 - len) ≡ 0) → Some (prefix_with addr len few host) ≡ prefix_of word
+pub prefix_read : (word : List ℕ) (addr len : ℕ) → HasAddressAndLength address_of 32 word addr len → (few : len ≤ 32) (host : addr % 2 ^ (32 - len) ≡ 0)
+    → Some (prefix_with addr len few host) ≡ prefix_of word
 unfolding given_prefix
-prefix_read word front back addr len at_front at_back addr_read len_read few host =
+prefix_read word addr len has few host =
     let few_test : T (leb len 32) = passes (leb len 32) (le-leb len 32 few) in
     let host_test : T (eqb (addr % 2 ^ (32 - len)) 0) = passes (eqb (addr % 2 ^ (32 - len)) 0) (eq-eqb _ 0 host) in
-    sym (prefix_parts word front back addr len at_front at_back addr_read len_read
+    sym (prefix_parts word addr len has
     ∙ given_yes (leb len 32) _ few_test
     ∙ given_yes (eqb (addr % 2 ^ (32 - len)) 0) _ host_test
     ∙ ap Some (one_fact addr len (leb_yes few_test) few (eqb_yes host_test) host))
 
-pub prefix_refused : (word front back : List ℕ) (addr len : ℕ)
-    → front ≡ before_first (λ byte. byte == 47) word → back ≡ after_first (λ byte. byte == 47) word
-    → Some addr ≡ address_of front → Some len ≡ number_of 0 32 back
-    → len ≤ 32 → (addr % 2 ^ (32 - len) ≡ 0 → ⊥) → None ≡ prefix_of word
+pub prefix_refused : (word : List ℕ) (addr len : ℕ) → HasAddressAndLength address_of 32 word addr len → len ≤ 32
+    → addr % 2 ^ (32 - len) ≢ 0 → None ≡ prefix_of word
 unfolding given_prefix
-prefix_refused word front back addr len at_front at_back addr_read len_read few host =
+prefix_refused word addr len has few host =
     let few_test : T (leb len 32) = passes (leb len 32) (le-leb len 32 few) in
-    sym (prefix_parts word front back addr len at_front at_back addr_read len_read
+    sym (prefix_parts word addr len has
     ∙ given_yes (leb len 32) _ few_test
     ∙ given_no (eqb (addr % 2 ^ (32 - len)) 0) _ (ne_eqb (addr % 2 ^ (32 - len)) 0 host))
+
+-- the same of IPv6 prefixes
+abbrev pub prefix6_with : (addr len : ℕ) → len ≤ 128 → addr % 2 ^ (128 - len) ≡ 0 → Prefix6
+prefix6_with addr len few host_bits = record { addr = addr; len = len; few = few; host_bits = host_bits }
+
+one_fact6 : (addr len : ℕ) (few few' : len ≤ 128) (host host' : addr % 2 ^ (128 - len) ≡ 0)
+    → prefix6_with addr len few host ≡ prefix6_with addr len few' host'
+one_fact6 addr len few few' host host' =
+    ap (λ f. prefix6_with addr len f host) (le_prop few few') ∙ ap (λ h. prefix6_with addr len few' h) (ℕ_set _ _ host host')
+
+given_prefix6 : ℕ → ℕ → Option Prefix6
+given_prefix6 addr len = given (leb len 128) (λ few. given (eqb (addr % 2 ^ (128 - len)) 0) (λ host_bits. Some (prefix6 addr len few host_bits)))
+
+prefix6_parts : (word : List ℕ) (addr len : ℕ) → HasAddressAndLength address6_of 128 word addr len → prefix6_of word ≡ given_prefix6 addr len
+unfolding given_prefix6
+prefix6_parts word addr len has =
+    ap (λ t. address6_of t >>= λ a. number_of 0 128 (after_first (λ byte. byte == 47) word) >>= λ l. given_prefix6 a l) (sym has.cut.before)
+    ∙ ap (λ t. address6_of has.front >>= λ a. number_of 0 128 t >>= λ l. given_prefix6 a l) (sym has.cut.after)
+    ∙ ap (λ o. o >>= λ a. number_of 0 128 has.back >>= λ l. given_prefix6 a l) (sym has.addr_is)
+    ∙ ap (λ o. o >>= λ l. given_prefix6 addr l) (sym has.len_is)
+
+pub prefix6_read : (word : List ℕ) (addr len : ℕ) → HasAddressAndLength address6_of 128 word addr len → (few : len ≤ 128)
+    (host : addr % 2 ^ (128 - len) ≡ 0) → Some (prefix6_with addr len few host) ≡ prefix6_of word
+unfolding given_prefix6
+prefix6_read word addr len has few host =
+    let few_test : T (leb len 128) = passes (leb len 128) (le-leb len 128 few) in
+    let host_test : T (eqb (addr % 2 ^ (128 - len)) 0) = passes (eqb (addr % 2 ^ (128 - len)) 0) (eq-eqb _ 0 host) in
+    sym (prefix6_parts word addr len has
+    ∙ given_yes (leb len 128) _ few_test
+    ∙ given_yes (eqb (addr % 2 ^ (128 - len)) 0) _ host_test
+    ∙ ap Some (one_fact6 addr len (leb_yes few_test) few (eqb_yes host_test) host))
+
+pub prefix6_refused : (word : List ℕ) (addr len : ℕ) → HasAddressAndLength address6_of 128 word addr len → len ≤ 128
+    → eqb (addr % 2 ^ (128 - len)) 0 ≡ false → None ≡ prefix6_of word
+unfolding given_prefix6
+prefix6_refused word addr len has few host =
+    let few_test : T (leb len 128) = passes (leb len 128) (le-leb len 128 few) in
+    sym (prefix6_parts word addr len has
+    ∙ given_yes (leb len 128) _ few_test
+    ∙ given_no (eqb (addr % 2 ^ (128 - len)) 0) _ host)
 
 -- a name, by what reads it
 pub name_read : (word : List ℕ) (n : Option (List ℕ)) → ((is_some n ≡ true) ↔ IsName word) → IfSome n (λ n. n ≡ word) → name_of word ≡ n

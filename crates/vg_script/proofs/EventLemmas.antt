@@ -1,4 +1,4 @@
--- The order of events.
+-- For `events_are_in_order` and `events_are_few`: the order of events.
 use Rattle.std.proofs.Common.{◌≡◌, ◌==◌, ◌⊎◌, ℕ, zero, suc, ◌+◌, ◌*◌, ◌<◌, ◌≤◌, Bool, true, false, cond, ◌&&◌, List, [], ◌∷◌, ◌++◌, length, map, get_or, refl, sym, ap, subst, ◌∙◌, arith, inl, inr, length-append}
 use Rattle.std.specs.Prelude.{flat_map, sum_by, IsPermutation}
 use Rattle.std.specs.Cmp.{IsStrictWeakOrder}

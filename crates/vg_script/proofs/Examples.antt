@@ -1,4 +1,4 @@
--- Worked examples of scripts, computed from the definitions.
+-- Worked examples of words and of scripts, computed from the definitions.
 use Rattle.std.proofs.Common.{◌≡◌, ℕ, suc, zero, true, false, List, [], ◌∷◌, ◌++◌, refl, map, replicate}
 use Rattle.std.specs.Fmt.{digits}
 use Rattle.std.specs.Prelude.{codes, decimal, flat_map, Option, Some, None, Ok, Err}
@@ -9,9 +9,10 @@ use Rattle.vg_model.specs.declared.kinds.HashKind.TheVariants.{Dst}
 use Rattle.vg_model.specs.declared.kinds.Kind.TheVariants as kinds
 use Rattle.vg_model.specs.declared.names.Mac.{Mac}
 use Rattle.vg_model.specs.declared.routes.RouteWord.TheVariants as targets
+use Rattle.vg_model.specs.KindWord.{vlan}
 use Rattle.vg_script.specs.declared.scripts.Script.{Script}
 use Rattle.vg_script.specs.Causes.{cause_of, cause_word}
-use Rattle.vg_script.specs.Classes.{prefix}
+use Rattle.vg_script.specs.Classes.{names_of, prefix, prefix6, prefix6_of, kind_of}
 use Rattle.vg_script.specs.Generations.{generations_of}
 use Rattle.vg_script.specs.Plain.{plain}
 use Rattle.vg_script.specs.Reading.{script_of}
@@ -41,6 +42,56 @@ refusal text = elim (script_of text) [
 abbrev pub mac : ℕ → Mac
 mac last = record { 0 = 2 ∷ 0 ∷ 0 ∷ 0 ∷ 0 ∷ last ∷ [] }
 
+-- words that are lists of names: one, several of which one stands twice, and sixteen
+abbrev pub sixteen_names : List ℕ
+sixteen_names = codes "a,b,c,d,e,f,g,h,i,j,k,l,m,n,o,p"
+
+names_are_read : map names_of (codes "next" ∷ codes "e1,e1,e0" ∷ sixteen_names ∷ [])
+    ≡ Some (codes "next" ∷ [])
+    ∷ Some (codes "e1" ∷ codes "e1" ∷ codes "e0" ∷ [])
+    ∷ Some (map (λ byte. byte ∷ []) (codes "abcdefghijklmnop"))
+    ∷ []
+names_are_read = refl
+
+-- seventeen names, an empty part, and a part that is no name
+no_names_are_read : map names_of ((sixteen_names ++ codes ",q") ∷ [] ∷ codes "," ∷ codes ",a" ∷ codes "a," ∷ codes "a,,b" ∷ codes "a,b:c" ∷ [])
+    ≡ replicate 7 None
+no_names_are_read = refl
+
+-- words that are IPv6 prefixes: a gap at the end, a gap alone, one in front and one within, and no gap
+prefixes6_are_read : map prefix6_of (
+    codes "2001:db8::/32" ∷ codes "::/0" ∷ codes "::1/128" ∷ codes "1:2:3::5:6:7:8/128" ∷ codes "FE80:0:0:0:0:0:0:0/9" ∷ [])
+    ≡ Some (prefix6 0x20010db8_00000000_00000000_00000000 32 tt tt)
+    ∷ Some (prefix6 0 0 tt tt)
+    ∷ Some (prefix6 1 128 tt tt)
+    ∷ Some (prefix6 0x00010002_00030000_00050006_00070008 128 tt tt)
+    ∷ Some (prefix6 0xfe800000_00000000_00000000_00000000 9 tt tt)
+    ∷ []
+prefixes6_are_read = refl
+
+-- a second gap, a gap for no group, seven groups, five digits, a host bit, a length above 128, and no length
+no_prefixes6_are_read : map prefix6_of (
+    codes "2001:db8::1::/128" ∷ codes "1:2:3:4:5:6:7:8::/128" ∷ codes "1:2:3:4:5:6:7/128" ∷ codes "02001:db8::/32" ∷ codes "fe80::/8"
+    ∷ codes "::/129" ∷ codes "2001:db8::" ∷ [])
+    ≡ replicate 7 None
+no_prefixes6_are_read = refl
+
+-- kinds with the least and the greatest number, and words with a number that is out of its range or has a zero in front
+numbered_kinds_are_read : map kind_of (
+    codes "dot1q-match-1" ∷ codes "dot1q-push-4094" ∷ codes "dot1q-rewrite-10" ∷ codes "xconnect-0" ∷ codes "xconnect-15" ∷ [])
+    ≡ Some (kinds.Dot1qMatch (vlan 1 tt tt))
+    ∷ Some (kinds.Dot1qPush (vlan 4094 tt tt))
+    ∷ Some (kinds.Dot1qRewrite (vlan 10 tt tt))
+    ∷ Some (kinds.CrossConnect 0)
+    ∷ Some (kinds.CrossConnect 15)
+    ∷ []
+numbered_kinds_are_read = refl
+
+no_kinds_are_read : map kind_of (
+    codes "dot1q-match-0" ∷ codes "dot1q-push-4095" ∷ codes "dot1q-rewrite-010" ∷ codes "xconnect-16" ∷ codes "xconnect-" ∷ [])
+    ≡ replicate 5 None
+no_kinds_are_read = refl
+
 -- three adjacencies, and a route over each
 abbrev pub three_routes : List ℕ
 three_routes = text_of (
@@ -57,9 +108,9 @@ three_routes_script = edits_alone (
     edits.Adjacency (codes "a0") (codes "pg0") (mac 0)
     ∷ edits.Adjacency (codes "a8") (codes "pg0") (mac 8)
     ∷ edits.Adjacency (codes "a16") (codes "pg0") (mac 0x16)
-    ∷ edits.Route (prefix 0 0 tt tt) (targets.Via (codes "a0"))
-    ∷ edits.Route (prefix 0x0a000000 8 tt tt) (targets.Via (codes "a8"))
-    ∷ edits.Route (prefix 0x0a010000 16 tt tt) (targets.Via (codes "a16"))
+    ∷ edits.Route (prefix 0 0 tt tt) (targets.Via (codes "a0" ∷ []))
+    ∷ edits.Route (prefix 0x0a000000 8 tt tt) (targets.Via (codes "a8" ∷ []))
+    ∷ edits.Route (prefix 0x0a010000 16 tt tt) (targets.Via (codes "a16" ∷ []))
     ∷ [])
 
 three_routes_are_read : script_of three_routes ≡ Ok three_routes_script
@@ -87,8 +138,8 @@ two_interfaces_script = edits_alone (
     ∷ edits.Interface (codes "lan") (record { 0 = 2 ∷ 254 ∷ 0 ∷ 0 ∷ 0 ∷ 1 ∷ [] }) 100 false false
     ∷ edits.Adjacency (codes "p") (codes "pg0") (mac 5)
     ∷ edits.Adjacency (codes "l") (codes "lan") (mac 6)
-    ∷ edits.Route (prefix 0x0a010000 16 tt tt) (targets.Via (codes "p"))
-    ∷ edits.Route (prefix 0x0a020000 16 tt tt) (targets.Via (codes "l"))
+    ∷ edits.Route (prefix 0x0a010000 16 tt tt) (targets.Via (codes "p" ∷ []))
+    ∷ edits.Route (prefix 0x0a020000 16 tt tt) (targets.Via (codes "l" ∷ []))
     ∷ [])
 
 two_interfaces_are_read : script_of two_interfaces ≡ Ok two_interfaces_script

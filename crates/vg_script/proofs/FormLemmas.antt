@@ -1,4 +1,4 @@
--- Forms, by what they read.
+-- For `Words::name`: a form that reads a word of a class.
 use Rattle.std.proofs.Common.{◌≡◌, ℕ, List, refl, ap, ◌∙◌}
 use Rattle.std.specs.Prelude.{Option, Some, None, ok_or, Ok}
 use Rattle.vg_script.specs.declared.errors.ScriptCause.{ScriptCause}

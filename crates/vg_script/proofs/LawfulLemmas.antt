@@ -1,4 +1,4 @@
--- What is read is lawful.
+-- For `read_is_lawful` and `parse_script`: what is read is lawful.
 use Rattle.std.proofs.Common.{◌≡◌, ◌⊎◌, ℕ, suc, ◌+◌, ◌<◌, ◌≤◌, Bool, true, false, cond, List, [], ◌∷◌, ◌++◌, length, map, get_or, refl, sym, ap, subst, ◌∙◌, arith, inl, inr, ltb-false, length-append}
 use Rattle.std.specs.Prelude.{Result, Ok, Err, IfOk, All, sum_by, nat_lt}
 use Rattle.std.specs.List.Sorted.{IsStrictlyIncreasing}

@@ -2,6 +2,7 @@ pub mod Examples
 pub mod BlockExamples
 pub mod SplitLemmas
 pub mod ClassLemmas
+pub mod PartLemmas
 pub mod FormLemmas
 pub mod ReadLemmas
 pub mod ValueLemmas
@@ -9,7 +10,9 @@ pub mod AnswerLemmas
 pub mod LineLemmas
 pub mod LawfulLemmas
 pub mod PrintLemmas
+pub mod GroupLemmas
 pub mod RoundTripLines
 pub mod RoundTripClasses
+pub mod RoundTripKinds
 pub mod RoundTripLemmas
 pub mod EventLemmas

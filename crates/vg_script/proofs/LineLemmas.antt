@@ -1,4 +1,4 @@
--- What a line does to what was read.
+-- For `read_is_lawful` and `parse_script`: what a line does to what was read.
 use Rattle.std.proofs.Common.{◌≡◌, ◌≢◌, ◌⊎◌, ℕ, Bool, true, false, not, List, [], ◌∷◌, refl, inl, inr}
 use Rattle.std.specs.Prelude.{Option, Some, None, IfSome, Result, Ok, Err, ok_or}
 use Rattle.std.specs.List.{list_all}

@@ -1,4 +1,4 @@
--- Lines that are read one by one.
+-- For `parse_script`, `read_line` and `Keyword::of`: lines that are read one by one.
 use Rattle.std.proofs.Common.{◌≡◌, ◌≢◌, ◌==◌, ℕ, suc, ◌+◌, ◌-◌, ◌<◌, ◌≤◌, Bool, true, false, cond, not, List, [], ◌∷◌, length, map, refl, sym, ap, subst, ◌∙◌, arith, le-ltb}
 use Rattle.std.specs.Prelude.{Option, Some, None, option_map, Result, Ok, Err, ok_or, find, bytes_eq}
 use Rattle.std.specs.List.{before_first, after_first, list_all}
@@ -30,7 +30,7 @@ find-map f test (x ∷ xs) = by_test (test (f x)) (find-map f test xs)
 abbrev pub all_keywords : List Keyword
 all_keywords =
     keywords.Interface ∷ keywords.Node ∷ keywords.Arc ∷ keywords.Adjacency ∷ keywords.Route ∷ keywords.Unroute
-    ∷ keywords.At ∷ keywords.Process ∷ keywords.Then ∷ keywords.End ∷ []
+    ∷ keywords.Route6 ∷ keywords.Unroute6 ∷ keywords.At ∷ keywords.Process ∷ keywords.Then ∷ keywords.End ∷ []
 
 pub row_found : (word : List ℕ) (keyword : Option Keyword) → keyword ≡ find (λ k. bytes_eq word (keyword_row k).word) all_keywords
     → row_of word ≡ option_map keyword_row keyword

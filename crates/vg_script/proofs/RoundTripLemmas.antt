@@ -1,4 +1,4 @@
--- A plain text, read line by line.
+-- For `printed_is_read_back`: a plain text, read line by line.
 use Rattle.std.proofs.Common.{◌≡◌, ℕ, suc, ◌+◌, ◌≤◌, Bool, true, false, not, List, [], ◌∷◌, ◌++◌, length, map, Some, Ok, refl, sym, ap, ◌∙◌, if◌then◌else◌, append_assoc, append-nil, length-append, arith}
 use Rattle.std.proofs.lemmas.Bool.{le-ltb}
 use Rattle.std.proofs.lemmas.List.Elements.{recursion_from_All}
@@ -11,6 +11,7 @@ use Rattle.vg_model.specs.declared.edits.EditLine.{EditLine}
 use Rattle.vg_model.specs.declared.kinds.Kind.{Kind}
 use Rattle.vg_model.specs.declared.names.Mac.{Mac}
 use Rattle.vg_model.specs.declared.routes.Prefix.{Prefix}
+use Rattle.vg_model.specs.declared.routes.Prefix6.{Prefix6}
 use Rattle.vg_model.specs.declared.routes.RouteWord.{RouteWord}
 use Rattle.vg_model.specs.declared.routes.RouteWord.TheVariants as targets
 use Rattle.vg_script.specs.declared.errors.ScriptCause.TheVariants as causes
@@ -18,16 +19,17 @@ use Rattle.vg_script.specs.declared.scripts.Script.{Script}
 use Rattle.vg_script.specs.declared.scripts.Block.{Block}
 use Rattle.vg_script.specs.declared.scripts.Block.TheVariants as blocks
 use Rattle.vg_model.specs.Name.{IsName}
-use Rattle.vg_script.specs.Classes.{name_of, number_of, mac_of, prefix_of, kind_of}
+use Rattle.vg_script.specs.Classes.{name_of, names_of, number_of, mac_of, prefix_of, prefix6_of, kind_of}
 use Rattle.vg_script.specs.Lawful.{block_events, IsBlock, IsLawfulBlock, IsLawfulEdit, AreLawfulEdits, IsTarget, IsEdit, AreEdits}
 use Rattle.vg_script.specs.Lines.{lines, without_comment, is_allowed, words}
-use Rattle.vg_script.specs.Plain.{mac_text, prefix_text, kind_text, target_words, edit_words, edit_lines, block_lines, script_lines, plain}
+use Rattle.vg_script.specs.Plain.{mac_text, prefix_text, prefix6_text, names_text, kind_text, target_words, edit_words, edit_lines, block_lines, script_lines, plain}
 use Rattle.vg_script.specs.Reading.{◌>>=◌, most_events, Begun, Nothing, AtBlock, ProcessBlock, Reading, with_edit, with_block, with_words, with_line, with_lines, with_statement, value_of, refused_if, refused, nothing_read, script_of_lines, script_of, largest_script}
 use Rattle.vg_script.specs.RoundTrip.{edits_from, groups_from, block_from, blocks_from, renumbered, edit_without_line, edits_without_lines, block_without_lines, IsSameButLines, ReadsBack}
 use Rattle.vg_script.specs.declared.statements.Statement.TheVariants.{At, Process}
-use Rattle.vg_script.specs.Statements.{Words, Form, interface_form, node_form, arc_form, adjacency_form, route_form, unroute_form, change, at_form, process_form, row_of}
+use Rattle.vg_script.specs.Statements.{Words, Form, interface_form, node_form, arc_form, adjacency_form, route_form, unroute_form, route6_form, unroute6_form, change, at_form, process_form, row_of}
 use Rattle.vg_script.proofs.RoundTripLines.{each-append, lines_are_read, IsWord, AreWords, text_of, texts_of, no_comment_is_cut, bytes_are_allowed, words_are_read}
-use Rattle.vg_script.proofs.RoundTripClasses.{name_is_read, name_is_word, number_is_read, number_is_word, mac_is_read, mac_is_word, prefix_is_read, prefix_is_word, kind_is_read, kind_is_word, literal}
+use Rattle.vg_script.proofs.RoundTripClasses.{name_is_read, name_is_word, number_is_read, number_is_word, mac_is_read, mac_is_word, prefix_is_read, prefix_is_word, names_are_read, names_are_word, prefix6_is_read, prefix6_is_word}
+use Rattle.vg_script.proofs.RoundTripKinds.{kind_is_read, kind_is_word, literal}
 
 -- the forms of the edits, on words that are read
 interface_by : (name mac mtu n : List ℕ) (m : Mac) (t : ℕ) (up filter : Bool)
@@ -53,12 +55,21 @@ adjacency_by name interface mac n i m e f g = rw (e, f, g) refl
 
 route_by : (prefix : List ℕ) (p : Prefix) (to : RouteWord) → prefix_of prefix ≡ Some p → IsTarget to
     → route_form (prefix ∷ target_words to) ≡ Ok (edits.Route p to, [])
-route_by prefix p (targets.Via name) e h = let f : name_of name ≡ Some name = name_is_read name h in rw (e, f) refl
+route_by prefix p (targets.Via names) e h = let f : names_of (names_text names) ≡ Some names = names_are_read names h.0 h.1 in rw (e, f) refl
 route_by prefix p targets.Local e h = rw e refl
 route_by prefix p targets.Drop e h = rw e refl
 
 unroute_by : (prefix : List ℕ) (p : Prefix) → prefix_of prefix ≡ Some p → unroute_form (prefix ∷ []) ≡ Ok (edits.Unroute p, [])
 unroute_by prefix p e = rw e refl
+
+route6_by : (prefix : List ℕ) (p : Prefix6) (to : RouteWord) → prefix6_of prefix ≡ Some p → IsTarget to
+    → route6_form (prefix ∷ target_words to) ≡ Ok (edits.Route6 p to, [])
+route6_by prefix p (targets.Via names) e h = let f : names_of (names_text names) ≡ Some names = names_are_read names h.0 h.1 in rw (e, f) refl
+route6_by prefix p targets.Local e h = rw e refl
+route6_by prefix p targets.Drop e h = rw e refl
+
+unroute6_by : (prefix : List ℕ) (p : Prefix6) → prefix6_of prefix ≡ Some p → unroute6_form (prefix ∷ []) ≡ Ok (edits.Unroute6 p, [])
+unroute6_by prefix p e = rw e refl
 
 at_by : (word : List ℕ) (time : ℕ) → number_of 0 1000000000000 word ≡ Some time → at_form (word ∷ []) ≡ Ok (At time, [])
 at_by word time e = rw e refl
@@ -77,7 +88,7 @@ filter_words true = (literal _ refl refl, tt)
 filter_words false = tt
 
 target_is_words : (to : RouteWord) → IsTarget to → AreWords (target_words to)
-target_is_words (targets.Via name) h = (literal _ refl refl, (name_is_word name h, tt))
+target_is_words (targets.Via names) h = (literal _ refl refl, (names_are_word names h.0 h.1, tt))
 target_is_words targets.Local h = (literal _ refl refl, tt)
 target_is_words targets.Drop h = (literal _ refl refl, tt)
 
@@ -90,6 +101,8 @@ edit_is_words (edits.Adjacency name interface mac) h l =
     (literal _ refl refl, (name_is_word name h.0, (literal _ refl refl, (name_is_word interface h.1, (literal _ refl refl, (mac_is_word mac h.2, tt))))))
 edit_is_words (edits.Route prefix to) h l = (literal _ refl refl, (prefix_is_word prefix, target_is_words to h.1))
 edit_is_words (edits.Unroute prefix) h l = (literal _ refl refl, (prefix_is_word prefix, tt))
+edit_is_words (edits.Route6 prefix to) h l = (literal _ refl refl, (prefix6_is_word prefix, target_is_words to h.1))
+edit_is_words (edits.Unroute6 prefix) h l = (literal _ refl refl, (prefix6_is_word prefix, tt))
 
 -- an edit is made where its form reads it
 change_is_read : (n : ℕ) (r : Reading) (form : Form Edit) (others : Words) (e : Edit) → form others ≡ Ok (e, [])
@@ -116,6 +129,10 @@ edit_is_read n r (edits.Route prefix to) h l =
     change_is_read n r route_form (prefix_text prefix ∷ target_words to) (edits.Route prefix to) (route_by (prefix_text prefix) prefix to (prefix_is_read prefix h.0) h.1)
 edit_is_read n r (edits.Unroute prefix) h l =
     change_is_read n r unroute_form (prefix_text prefix ∷ []) (edits.Unroute prefix) (unroute_by (prefix_text prefix) prefix (prefix_is_read prefix h))
+edit_is_read n r (edits.Route6 prefix to) h l =
+    change_is_read n r route6_form (prefix6_text prefix ∷ target_words to) (edits.Route6 prefix to) (route6_by (prefix6_text prefix) prefix to (prefix6_is_read prefix h.0) h.1)
+edit_is_read n r (edits.Unroute6 prefix) h l =
+    change_is_read n r unroute6_form (prefix6_text prefix ∷ []) (edits.Unroute6 prefix) (unroute6_by (prefix6_text prefix) prefix (prefix6_is_read prefix h))
 
 -- a line is read as its words
 line_by : (n : ℕ) (r : Reading) (bytes : List ℕ) (ws : Words) → without_comment bytes ≡ bytes → list_all is_allowed bytes ≡ true → words bytes ≡ ws

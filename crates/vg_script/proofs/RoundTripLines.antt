@@ -1,4 +1,4 @@
--- The lines and the words of a plain text, read.
+-- For `printed_is_read_back`: the lines and the words of a plain text, read.
 use Rattle.std.proofs.Common.{◌≡◌, ℕ, suc, ◌+◌, ◌≤◌, Bool, true, false, cond, ◌&&◌, not, ltb, ◌==◌, nat_le, List, [], ◌∷◌, ◌++◌, length, take, drop, All, map, refl, ap, ◌∙◌, add-one, arith}
 use Rattle.std.proofs.lemmas.Bool.{and_parts, and_from, lt-ltb}
 use Rattle.std.proofs.lemmas.Bool.Decides.{nat_tests}

@@ -1,9 +1,11 @@
--- Texts that are split at the first byte of a kind, their lines and their words.
+-- For `split_at_first`, `first_part`, `split_at_blank`, `Words::next` and `parse_script`: texts that are split at the first byte of a kind,
+-- their lines and their words.
 use Rattle.std.proofs.Common.{◌≡◌, ◌==◌, ℕ, suc, ◌+◌, ◌<◌, ◌≤◌, Bool, true, false, cond, ltb, List, [], ◌∷◌, length, take, drop, refl, sym, ap, subst, ◌∙◌, arith, ltb-true, ltb-false, lt-ltb, le-ltb, add-one, length-drop}
 use Rattle.std.proofs.lemmas.List.Splits.{slice_split_first}
 use Rattle.std.specs.Prelude.{Option, Some, None, unwrap_or, filter, nat_lt}
 use Rattle.std.specs.List.{position_or_len, before_first, after_first, slice_split, onto_first}
 use Rattle.std.proofs.lemmas.List.{take_all, drop_all}
+use Rattle.std.proofs.lemmas.Option.{none-some, same_Some}
 use Rattle.vg_script.specs.Lines.{lines, is_blank, words}
 
 -- all, and nothing
@@ -78,20 +80,40 @@ lines-first byte [] = first_line byte [] refl (byte == 10) refl
 lines-first byte (next ∷ rest) = first_line byte (next ∷ rest) (ap (onto_first byte) (lines-first next rest)) (byte == 10) refl
 
 -- a text that isn't split
-not_split : (byte : ℕ) (bytes : List ℕ) → (length bytes ≤ position_or_len is_blank bytes → slice_split is_blank bytes ≡ bytes ∷ [])
-    → length (byte ∷ bytes) ≤ position_or_len is_blank (byte ∷ bytes) → (b : Bool) → is_blank byte ≡ b → slice_split is_blank (byte ∷ bytes) ≡ (byte ∷ bytes) ∷ []
-not_split byte bytes rest h true e =
-    let first : position_or_len is_blank (byte ∷ bytes) ≡ 0 = first_passes is_blank byte bytes e in
+not_split : (p : ℕ → Bool) (byte : ℕ) (bytes : List ℕ) → (length bytes ≤ position_or_len p bytes → slice_split p bytes ≡ bytes ∷ [])
+    → length (byte ∷ bytes) ≤ position_or_len p (byte ∷ bytes) → (b : Bool) → p byte ≡ b → slice_split p (byte ∷ bytes) ≡ (byte ∷ bytes) ∷ []
+not_split p byte bytes rest h true e =
+    let first : position_or_len p (byte ∷ bytes) ≡ 0 = first_passes p byte bytes e in
     let long : suc (length bytes) ≤ 0 = subst (λ n. suc (length bytes) ≤ n) first h in
     absurd (omega (arith, long))
-not_split byte bytes rest h false e =
-    let later : position_or_len is_blank (byte ∷ bytes) ≡ suc (position_or_len is_blank bytes) = later_passes is_blank byte bytes e in
-    let long : suc (length bytes) ≤ suc (position_or_len is_blank bytes) = subst (λ n. suc (length bytes) ≤ n) later h in
+not_split p byte bytes rest h false e =
+    let later : position_or_len p (byte ∷ bytes) ≡ suc (position_or_len p bytes) = later_passes p byte bytes e in
+    let long : suc (length bytes) ≤ suc (position_or_len p bytes) = subst (λ n. suc (length bytes) ≤ n) later h in
     rw e (ap (onto_first byte) (rest (omega (arith, long))))
 
-slice_split-none : (bytes : List ℕ) → length bytes ≤ position_or_len is_blank bytes → slice_split is_blank bytes ≡ bytes ∷ []
-slice_split-none [] h = refl
-slice_split-none (byte ∷ bytes) h = not_split byte bytes (slice_split-none bytes) h (is_blank byte) refl
+slice_split-none : (p : ℕ → Bool) (bytes : List ℕ) → length bytes ≤ position_or_len p bytes → slice_split p bytes ≡ bytes ∷ []
+slice_split-none p [] h = refl
+slice_split-none p (byte ∷ bytes) h = not_split p byte bytes (slice_split-none p bytes) h (p byte) refl
+
+-- a text's parts, by the place of its first mark
+pub parts_found : (p : ℕ → Bool) (text : List ℕ) (place : ℕ) → Some place ≡ cond (ltb (position_or_len p text) (length text)) (Some (position_or_len p text)) None
+    → slice_split p text ≡ take place text ∷ slice_split p (drop (place + 1) text)
+parts_found p text place found = by_test (ltb (position_or_len p text) (length text)) refl found
+  where
+    by_test : (b : Bool) → ltb (position_or_len p text) (length text) ≡ b → Some place ≡ cond b (Some (position_or_len p text)) None
+        → slice_split p text ≡ take place text ∷ slice_split p (drop (place + 1) text)
+    by_test true e found =
+        let same : place ≡ position_or_len p text = same_Some place (position_or_len p text) found in
+        slice_split_first p text 0 (ltb-true _ _ e) ∙ ap (λ n. take n text ∷ slice_split p (drop (n + 1) text)) (sym same)
+    by_test false e found = absurd (none-some place (sym found))
+
+pub parts_missing : (p : ℕ → Bool) (text : List ℕ) → None ≡ cond (ltb (position_or_len p text) (length text)) (Some (position_or_len p text)) None
+    → slice_split p text ≡ text ∷ []
+parts_missing p text found = by_test (ltb (position_or_len p text) (length text)) refl found
+  where
+    by_test : (b : Bool) → ltb (position_or_len p text) (length text) ≡ b → None ≡ cond b (Some (position_or_len p text)) None → slice_split p text ≡ text ∷ []
+    by_test true e found = absurd (none-some (position_or_len p text) found)
+    by_test false e found = slice_split-none p text (ltb-false _ _ e)
 
 -- the words, with this text in front where it is a word
 abbrev pub with_part : List ℕ → List (List ℕ) → List (List ℕ)
@@ -106,7 +128,7 @@ words-first bytes = by_test (ltb (position_or_len is_blank bytes) (length bytes)
     by_test true e = ap (filter (λ word. nat_lt 0 (length word))) (slice_split_first is_blank bytes 0 (ltb-true _ _ e))
     by_test false e =
         let none : length bytes ≤ position_or_len is_blank bytes = ltb-false _ _ e in
-        ap (filter (λ word. nat_lt 0 (length word))) (slice_split-none bytes none)
+        ap (filter (λ word. nat_lt 0 (length word))) (slice_split-none is_blank bytes none)
         ∙ sym (ap (with_part (before_first is_blank bytes)) (ap words (after_none is_blank bytes none)) ∙ ap (λ part. with_part part []) (before_none is_blank bytes none))
 
 -- a text that begins with a word, and one that doesn't

@@ -1,5 +1,6 @@
 -- Lawful scripts (this project's profile).
 use Rattle.std.specs.Prelude.{ℕ, ◌^◌, ◌<◌, ◌≤◌, List, length, map, All, sum_by, IsSome}
+use Rattle.std.specs.List.{AllByRecursion}
 use Rattle.std.specs.List.Sorted.{IsStrictlyIncreasing}
 use Rattle.vg_model.specs.declared.edits.Edit.{Edit}
 use Rattle.vg_model.specs.declared.edits.Edit.TheVariants as edits
@@ -7,6 +8,7 @@ use Rattle.vg_model.specs.declared.edits.EditLine.{EditLine}
 use Rattle.vg_model.specs.declared.routes.RouteWord.{RouteWord}
 use Rattle.vg_model.specs.declared.routes.RouteWord.TheVariants as targets
 use Rattle.vg_model.specs.Graph.{kind_entry}
+use Rattle.vg_model.specs.Members.{AreMembers}
 use Rattle.vg_model.specs.Name.{IsName}
 use Rattle.vg_model.specs.Valid.{IsMac}
 use Rattle.vg_script.specs.declared.scripts.Block.{Block}
@@ -22,6 +24,8 @@ IsLawfulEdit (edits.Arc from slot to) = Unit {0}
 IsLawfulEdit (edits.Adjacency name interface mac) = Unit {0}
 IsLawfulEdit (edits.Route prefix to) = Unit {0}
 IsLawfulEdit (edits.Unroute prefix) = Unit {0}
+IsLawfulEdit (edits.Route6 prefix to) = Unit {0}
+IsLawfulEdit (edits.Unroute6 prefix) = Unit {0}
 
 abbrev pub AreLawfulEdits : List EditLine → Type 0
 AreLawfulEdits lines = All (λ l. IsLawfulEdit l.edit) lines
@@ -51,9 +55,9 @@ pub record IsLawful (script : Script) : Type 0 where
   -- its events are not too many
   pub events : sum_by block_events script.blocks ≤ most_events
 
--- what the types keep of an edit: names are names, and addresses have six bytes
+-- what the types keep of an edit: names are names, those of a route are 1 to 16, and addresses have six bytes
 abbrev pub IsTarget : RouteWord → Type 0
-IsTarget (targets.Via name) = IsName name
+IsTarget (targets.Via names) = AreMembers names × AllByRecursion IsName names
 IsTarget targets.Local = Unit {0}
 IsTarget targets.Drop = Unit {0}
 
@@ -64,6 +68,8 @@ IsEdit (edits.Arc from slot to) = IsName from × IsName slot × IsName to
 IsEdit (edits.Adjacency name interface mac) = IsName name × IsName interface × IsMac mac
 IsEdit (edits.Route prefix to) = (prefix.addr < 2 ^ 32) × IsTarget to
 IsEdit (edits.Unroute prefix) = prefix.addr < 2 ^ 32
+IsEdit (edits.Route6 prefix to) = (prefix.addr < 2 ^ 128) × IsTarget to
+IsEdit (edits.Unroute6 prefix) = prefix.addr < 2 ^ 128
 
 abbrev pub AreEdits : List EditLine → Type 0
 AreEdits lines = All (λ l. IsEdit l.edit) lines

@@ -1,3 +1,5 @@
+pub mod Parts
+pub mod Address6
 pub mod Causes
 pub mod Lines
 pub mod Classes

@@ -6,13 +6,14 @@ use Rattle.vg_model.specs.declared.edits.Edit.TheVariants as edits
 use Rattle.vg_model.specs.declared.kinds.Kind.{Kind}
 use Rattle.vg_model.specs.declared.names.Mac.{Mac}
 use Rattle.vg_model.specs.declared.routes.Prefix.{Prefix}
+use Rattle.vg_model.specs.declared.routes.Prefix6.{Prefix6}
 use Rattle.vg_model.specs.declared.routes.RouteWord.{RouteWord}
 use Rattle.vg_model.specs.declared.routes.RouteWord.TheVariants as targets
 use Rattle.vg_script.specs.declared.errors.ScriptCause.{ScriptCause}
 use Rattle.vg_script.specs.declared.errors.ScriptCause.TheVariants as causes
 use Rattle.vg_script.specs.declared.statements.Statement.{Statement}
 use Rattle.vg_script.specs.declared.statements.Statement.TheVariants.{Change, At, Process, Then, End}
-use Rattle.vg_script.specs.Classes.{name_of, number_of, mac_of, prefix_of, kind_of}
+use Rattle.vg_script.specs.Classes.{name_of, names_of, number_of, mac_of, prefix_of, prefix6_of, kind_of}
 
 -- the words of a line that are still to be read
 abbrev pub Words : Type 0
@@ -61,11 +62,17 @@ a_word_of class cause = do
 abbrev pub a_name : Form (List ℕ)
 a_name = a_word_of name_of causes.Name
 
+abbrev pub some_names : Form (List (List ℕ))
+some_names = a_word_of names_of causes.Name
+
 abbrev pub a_mac : Form Mac
 a_mac = a_word_of mac_of causes.Mac
 
 abbrev pub a_prefix : Form Prefix
 a_prefix = a_word_of prefix_of causes.Prefix
+
+abbrev pub a_prefix6 : Form Prefix6
+a_prefix6 = a_word_of prefix6_of causes.Prefix
 
 abbrev pub a_kind : Form Kind
 a_kind = a_word_of kind_of causes.Kind
@@ -86,12 +93,12 @@ abbrev pub filter_or_nothing : Form Bool
 filter_or_nothing [] = Ok (false, [])
 filter_or_nothing (word ∷ words) = if bytes_eq word (codes "filter") then Ok (true, words) else Err causes.Word
 
--- `via NAME`, `local` or `drop`, by its first word
+-- `via NAMES`, `local` or `drop`, by its first word
 abbrev pub target_by : List ℕ → Form RouteWord
 target_by word =
     if bytes_eq word (codes "via") then (do
-      name ← a_name
-      gives (targets.Via name))
+      names ← some_names
+      gives (targets.Via names))
     else if bytes_eq word (codes "local") then gives targets.Local
     else if bytes_eq word (codes "drop") then gives targets.Drop
     else or_else None causes.Word
@@ -143,7 +150,7 @@ adjacency_form = do
   _ ← end_of_line
   gives (edits.Adjacency name interface mac)
 
--- `route PREFIX via NAME`, `route PREFIX local`, `route PREFIX drop`
+-- `route PREFIX via NAMES`, `route PREFIX local`, `route PREFIX drop`
 abbrev pub route_form : Form Edit
 route_form = do
   prefix ← a_prefix
@@ -157,6 +164,21 @@ unroute_form = do
   prefix ← a_prefix
   _ ← end_of_line
   gives (edits.Unroute prefix)
+
+-- `route6 PREFIX6 via NAMES`, `route6 PREFIX6 local`, `route6 PREFIX6 drop`
+abbrev pub route6_form : Form Edit
+route6_form = do
+  prefix ← a_prefix6
+  to ← a_target
+  _ ← end_of_line
+  gives (edits.Route6 prefix to)
+
+-- `unroute6 PREFIX6`
+abbrev pub unroute6_form : Form Edit
+unroute6_form = do
+  prefix ← a_prefix6
+  _ ← end_of_line
+  gives (edits.Unroute6 prefix)
 
 -- a change of the graph as a statement
 abbrev pub change : Form Edit → Form Statement
@@ -213,6 +235,8 @@ rows =
     ∷ row (codes "adjacency") Anywhere (change adjacency_form)
     ∷ row (codes "route") Anywhere (change route_form)
     ∷ row (codes "unroute") Anywhere (change unroute_form)
+    ∷ row (codes "route6") Anywhere (change route6_form)
+    ∷ row (codes "unroute6") Anywhere (change unroute6_form)
     ∷ row (codes "at") OutsideBlocks at_form
     ∷ row (codes "process") OutsideBlocks process_form
     ∷ row (codes "then") InAProcess (alone Then)

@@ -1,25 +1,21 @@
 //! The classes of words.
-ghost use Rattle.std.specs.Prelude.{◌≡◌, ◌+◌, ◌<◌, ◌≤◌, ◌==◌, length, take, drop, unwrap_or, IfSome};
+ghost use Rattle.std.specs.Prelude.{◌≡◌, ◌+◌, ◌++◌, ◌<◌, ◌≤◌, ◌==◌, length, take, drop, unwrap_or, bytes_eq, decimal, Some, None, IfSome, MatchResult, ok_or, find, ◌-◌, ◌%◌, ◌^◌};
 ghost use Rattle.std.specs.Option.{ForSome};
 ghost use Rattle.std.specs.List.{before_first, after_first};
-ghost use Rattle.vg_script.specs.Classes.{is_decimal as is_decimal_word, number_of, pair_of, mac_of, address_of, prefix_of, is_word_for as kind_word_is, kind_of};
+ghost use Rattle.vg_model.specs.Graph.{plain_kinds};
+ghost use Rattle.vg_script.specs.Reader.{Refuses};
+ghost use Rattle.vg_script.specs.Classes.{names_of, is_decimal as is_decimal_word, number_of, pair_of, mac_of, address_of, prefix_of};
+ghost use Rattle.vg_script.specs.Classes.{prefix6_of, is_word_for as kind_word_is, number_behind as number_behind_text, vlan_behind as vlan_behind_text, numbered_kind as numbered_kind_of, kind_of};
 
+use crate::address6::address6;
+use crate::errors::ScriptCause;
+use crate::parts::first_part;
+use itoa::Buffer;
+use std::alloc::Global;
 use std::str;
-use vg_model::{HashKind, Kind, Mac, Prefix};
-
-/// The kinds of which scripts make nodes.
-const SCRIPTED_KINDS: [Kind; 10] = [
-    Kind::WorkerHandoff(HashKind::Flow),
-    Kind::WorkerHandoff(HashKind::Src),
-    Kind::WorkerHandoff(HashKind::Dst),
-    Kind::EthernetInput,
-    Kind::Ip4Input,
-    Kind::Ip4Lookup,
-    Kind::Ip4Rewrite,
-    Kind::InterfaceOutput,
-    Kind::InterfaceTx,
-    Kind::Pass,
-];
+use vg_model::kinds::{CONNECT_TEXT, MATCH_TEXT, PUSH_TEXT, REWRITE_TEXT};
+use vg_model::limits::{LEAST_VLAN, MOST_INTERFACES, MOST_MEMBERS, MOST_VLAN};
+use vg_model::{Kind, KindWord, Mac, Name, Names, Prefix, Prefix6, VlanId};
 
 /// What stands before a place, and what stands behind the byte there: all and nothing where there is no place.
 pub fn split_at(text: &[u8], place: Option<usize>) -> (&[u8], &[u8])
@@ -39,6 +35,28 @@ pub fn split_at_first(text: &[u8], mark: u8) -> (&[u8], &[u8])
     ensures after { result.1.now ≡ after_first (λ byte. byte == mark) text.now }
 {
     split_at(text, text.iter().position(|byte| *byte == mark))
+}
+
+/// The names that a word says, parted by `,`: 1 to 16.
+pub fn names(alloc: Global, word: &[u8]) -> Result<Names, ScriptCause>
+    ensures { MatchResult result (λ names. names_of word.now ≡ Some names) (λ cause. Refuses (ok_or (names_of word.now) ScriptCause.Name) cause) }
+{
+    let mut names = Vec::new(alloc);
+    let mut rest = Some(word);
+    while let Some(text) = rest {
+        let (part, others) = first_part(text, b',');
+        if names.len() >= MOST_MEMBERS {
+            return Err(ScriptCause::Name);
+        }
+        let Some(name) = Name::of(part) else {
+            return Err(ScriptCause::Name);
+        };
+        if names.push(name).is_err() {
+            return Err(ScriptCause::Memory);
+        }
+        rest = others;
+    }
+    Ok(Names::from_vec(names))
 }
 
 /// Whether the word is decimal digits, the first of several not 0.
@@ -138,22 +156,107 @@ pub fn prefix(word: &[u8]) -> Option<Prefix>
     })
 }
 
+/// The IPv6 prefix that a word says.
+pub fn prefix6(word: &[u8]) -> Option<Prefix6>
+    ensures { result ≡ prefix6_of word.now }
+{
+    let (addr, len) = split_at_first(word, b'/');
+    let addr = address6(addr)?;
+    let len = number(len, 0, 128)?;
+    if !has_no_host_bits(addr, len as u8) {
+        return None;
+    }
+    Some(Prefix6 {
+        addr,
+        len: len as u8,
+    })
+}
+
+/// Whether all bits of an IPv6 address behind so many are 0.
+fn has_no_host_bits(addr: u128, len: u8) -> bool
+    requires { len ≤ 128 }
+    ensures { result ≡ (addr % 2 ^ (128 - len) == 0) }
+{
+    if len == 0 {
+        addr == 0
+    } else {
+        addr % (1u128 << (128 - len)) == 0
+    }
+}
+
+/// Whether the word is a text with a number behind it.
+fn is_text_and_number(word: &[u8], text: &[u8], number: u16) -> bool
+    ensures { result ≡ bytes_eq word.now (text.now ++ decimal number) }
+{
+    match word.strip_prefix(text) {
+        Some(digits) => digits == Buffer::new().format(number).as_bytes(),
+        None => false,
+    }
+}
+
 /// Whether this is the kind's word.
 fn is_word_for(word: &[u8], kind: Kind) -> bool
     ensures { result ≡ kind_word_is word.now kind }
 {
     match kind.word() {
-        Some(own) => word == own.as_bytes(),
+        Some(KindWord { text, number }) => match number {
+            None => word == text.as_bytes(),
+            Some(number) => is_text_and_number(word, text.as_bytes(), number),
+        },
         None => false,
     }
+}
+
+/// The number behind a text, where it is in its range.
+fn number_behind(word: &[u8], text: &str, least: u16, most: u16) -> Option<u16>
+    ensures { result ≡ number_behind_text text.now least most word.now }
+{
+    let digits = word.strip_prefix(text.as_bytes())?;
+    let number = number(digits, u64::from(least), u64::from(most))?;
+    Some(number as u16)
+}
+
+/// The VLAN id behind a text.
+fn vlan_behind(word: &[u8], text: &str) -> Option<VlanId>
+    ensures { result ≡ vlan_behind_text text.now word.now }
+{
+    let number = number_behind(word, text, LEAST_VLAN, MOST_VLAN)?;
+    Some(VlanId { number })
+}
+
+/// The kind with a number that a word says.
+fn numbered_kind(word: &[u8]) -> Option<Kind>
+    ensures { result ≡ numbered_kind_of word.now }
+{
+    if let Some(id) = vlan_behind(word, MATCH_TEXT) {
+        return Some(Kind::Dot1qMatch(id));
+    }
+    if let Some(id) = vlan_behind(word, PUSH_TEXT) {
+        return Some(Kind::Dot1qPush(id));
+    }
+    if let Some(id) = vlan_behind(word, REWRITE_TEXT) {
+        return Some(Kind::Dot1qRewrite(id));
+    }
+    let interface = number_behind(word, CONNECT_TEXT, 0, MOST_INTERFACES as u16 - 1)?;
+    Some(Kind::CrossConnect(interface as u8))
+}
+
+/// The kind without a number that a word says.
+fn plain_kind(word: &[u8]) -> Option<Kind>
+    ensures { result ≡ find (kind_word_is word.now) plain_kinds }
+{
+    Kind::PLAIN
+        .iter()
+        .find(|kind| is_word_for(word, **kind))
+        .copied()
 }
 
 /// The kind that a word says.
 pub fn kind(word: &[u8]) -> Option<Kind>
     ensures { result ≡ kind_of word.now }
 {
-    SCRIPTED_KINDS
-        .iter()
-        .find(|kind| is_word_for(word, **kind))
-        .copied()
+    match plain_kind(word) {
+        Some(kind) => Some(kind),
+        None => numbered_kind(word),
+    }
 }

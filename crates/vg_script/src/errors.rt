@@ -10,14 +10,16 @@ pub enum ScriptCause {
     Bytes,
     /// A line begins with no statement, a fixed word is another, a word is missing, or there is one too many.
     Word,
-    /// A name isn't 1 to 32 letters, digits, `-`, `_` and `.`.
+    /// A name isn't 1 to 32 letters, digits, `-`, `_` and `.`, or a list of a route's names isn't 1 to 16 such names with `,` between
+    /// them.
     Name,
     /// A number isn't in decimal digits without leading zeros, or is out of its range.
     Number,
     /// A link-layer address isn't six pairs of hexadecimal digits parted by `:`.
     Mac,
     /// A prefix isn't written as `10.1.0.0/16` is, a number in it is above 255, its length is above 32, or a bit behind its
-    /// length is set.
+    /// length is set; or an IPv6 prefix isn't written as `2001:db8::/32` is, a group has more than four digits, its length is above
+    /// 128, or a bit behind its length is set.
     Prefix,
     /// A kind isn't one of which scripts make nodes.
     Kind,

@@ -4,10 +4,12 @@
 //! begins a block, whose edits are made while packets go through the graph.
 #![tactic(auto)]
 
+mod address6;
 mod classes;
 pub mod errors;
 pub mod laws;
 pub mod lists;
+mod parts;
 mod reader;
 mod reading;
 pub mod scripts;

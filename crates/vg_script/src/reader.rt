@@ -113,7 +113,9 @@ impl Reader {
             | Keyword::Arc
             | Keyword::Adjacency
             | Keyword::Route
-            | Keyword::Unroute => true,
+            | Keyword::Unroute
+            | Keyword::Route6
+            | Keyword::Unroute6 => true,
             Keyword::At | Keyword::Process => self.open.is_none(),
             Keyword::Then => matches!(self.open, Some(OpenBlock::Process { .. })),
             Keyword::End => self.open.is_some(),
@@ -215,7 +217,7 @@ impl Reader {
         if !self.may_stand(keyword) {
             return Err(ScriptCause::Block);
         }
-        let statement = Statement::read(keyword, words)?;
+        let statement = Statement::read(self.alloc, keyword, words)?;
         self.add_statement(line, statement)
     }
 

@@ -1,10 +1,11 @@
 //! The statements of a script: the words of each.
-ghost use Rattle.std.specs.Prelude.{◌≡◌, option_map, bytes_eq};
-ghost use Rattle.vg_script.specs.Keywords.{keyword_row, found};
-ghost use Rattle.vg_script.specs.Statements.{row_of, interface_form, node_form, arc_form, adjacency_form, route_form, unroute_form, at_form, process_form, alone as alone_form};
+ghost use Rattle.std.specs.Prelude.{◌≡◌, false, option_map, bytes_eq};
+ghost use Rattle.vg_script.specs.Keywords.{keyword_row, may_have_names, found, Finds};
+ghost use Rattle.vg_script.specs.Statements.{row_of, interface_form, node_form, arc_form, adjacency_form, route_form, unroute_form, route6_form, unroute6_form, at_form, process_form, alone as alone_form};
 
 use crate::errors::ScriptCause;
 use crate::words::Words;
+use std::alloc::Global;
 use vg_model::limits::{LONGEST_TIME, MOST_EVENTS};
 use vg_model::{Edit, Name};
 
@@ -32,6 +33,8 @@ pub enum Keyword {
     Adjacency,
     Route,
     Unroute,
+    Route6,
+    Unroute6,
     At,
     Process,
     Then,
@@ -40,13 +43,15 @@ pub enum Keyword {
 
 impl Keyword {
     /// All keywords.
-    const ALL: [Keyword; 10] = [
+    const ALL: [Keyword; 12] = [
         Keyword::Interface,
         Keyword::Node,
         Keyword::Arc,
         Keyword::Adjacency,
         Keyword::Route,
         Keyword::Unroute,
+        Keyword::Route6,
+        Keyword::Unroute6,
         Keyword::At,
         Keyword::Process,
         Keyword::Then,
@@ -64,6 +69,8 @@ impl Keyword {
             Keyword::Adjacency => "adjacency",
             Keyword::Route => "route",
             Keyword::Unroute => "unroute",
+            Keyword::Route6 => "route6",
+            Keyword::Unroute6 => "unroute6",
             Keyword::At => "at",
             Keyword::Process => "process",
             Keyword::Then => "then",
@@ -150,11 +157,11 @@ fn adjacency(words: &mut Words) -> Result<Edit, ScriptCause>
 }
 
 /// The words behind `route`.
-fn route(words: &mut Words) -> Result<Edit, ScriptCause>
-    ensures { route_form words.old ≡ found result words.new }
+fn route(alloc: Global, words: &mut Words) -> Result<Edit, ScriptCause>
+    ensures { Finds (route_form words.old) result words.new }
 {
     let prefix = words.prefix()?;
-    let to = words.target()?;
+    let to = words.target(alloc)?;
     words.end()?;
     Ok(Edit::Route { prefix, to })
 }
@@ -166,6 +173,25 @@ fn unroute(words: &mut Words) -> Result<Edit, ScriptCause>
     let prefix = words.prefix()?;
     words.end()?;
     Ok(Edit::Unroute { prefix })
+}
+
+/// The words behind `route6`.
+fn route6(alloc: Global, words: &mut Words) -> Result<Edit, ScriptCause>
+    ensures { Finds (route6_form words.old) result words.new }
+{
+    let prefix = words.prefix6()?;
+    let to = words.target(alloc)?;
+    words.end()?;
+    Ok(Edit::Route6 { prefix, to })
+}
+
+/// The words behind `unroute6`.
+fn unroute6(words: &mut Words) -> Result<Edit, ScriptCause>
+    ensures { unroute6_form words.old ≡ found result words.new }
+{
+    let prefix = words.prefix6()?;
+    words.end()?;
+    Ok(Edit::Unroute6 { prefix })
 }
 
 /// The words behind `at`.
@@ -199,17 +225,24 @@ fn alone(statement: Statement, words: &mut Words) -> Result<Statement, ScriptCau
 }
 
 impl Statement {
-    /// The statement that a keyword and the words behind it say.
-    pub fn read(keyword: Keyword, words: &mut Words) -> Result<Statement, ScriptCause>
-        ensures { (keyword_row keyword).form words.old ≡ found result words.new }
+    /// The statement that a keyword and the words behind it say. Memory can run out only where names stand behind it.
+    pub fn read(
+        alloc: Global,
+        keyword: Keyword,
+        words: &mut Words,
+    ) -> Result<Statement, ScriptCause>
+        ensures value { Finds ((keyword_row keyword).form words.old) result words.new }
+        ensures exact { may_have_names keyword ≡ false → (keyword_row keyword).form words.old ≡ found result words.new }
     {
         match keyword {
             Keyword::Interface => Ok(Statement::Change(interface(words)?)),
             Keyword::Node => Ok(Statement::Change(node(words)?)),
             Keyword::Arc => Ok(Statement::Change(arc(words)?)),
             Keyword::Adjacency => Ok(Statement::Change(adjacency(words)?)),
-            Keyword::Route => Ok(Statement::Change(route(words)?)),
+            Keyword::Route => Ok(Statement::Change(route(alloc, words)?)),
             Keyword::Unroute => Ok(Statement::Change(unroute(words)?)),
+            Keyword::Route6 => Ok(Statement::Change(route6(alloc, words)?)),
+            Keyword::Unroute6 => Ok(Statement::Change(unroute6(words)?)),
             Keyword::At => at(words),
             Keyword::Process => process(words),
             Keyword::Then => alone(Statement::Then, words),

@@ -1,14 +1,15 @@
 //! The words of a line, one after the other.
 ghost use Rattle.std.specs.Prelude.{◌≡◌, ◌≤◌, IfOk, MatchOption, MatchResult, [], ◌∷◌, codes};
 ghost use Rattle.std.specs.List.{before_first, after_first};
-ghost use Rattle.vg_script.specs.Keywords.{found};
+ghost use Rattle.vg_script.specs.Keywords.{found, Finds};
 ghost use Rattle.vg_script.specs.Lines.{is_blank as blank};
-ghost use Rattle.vg_script.specs.Statements.{a_name, a_mac, a_prefix, a_kind, a_number, a_word, fixed, up_or_down, filter_or_nothing, a_target, end_of_line};
+ghost use Rattle.vg_script.specs.Statements.{a_name, some_names, a_mac, a_prefix, a_prefix6, a_kind, a_number, a_word, fixed, up_or_down, filter_or_nothing, a_target, end_of_line};
 
 use crate::classes::{self, split_at};
 use crate::errors::ScriptCause;
+use std::alloc::Global;
 use std::marker::Model;
-use vg_model::{Kind, Mac, Name, Prefix, RouteWord};
+use vg_model::{Kind, Mac, Name, Names, Prefix, Prefix6, RouteWord};
 
 /// The words of a line that are still to be read.
 #[derive(Drop)]
@@ -77,6 +78,13 @@ impl<'a> Words<'a> {
         Name::of(word).ok_or(ScriptCause::Name)
     }
 
+    /// Names.
+    pub fn names(&mut self, alloc: Global) -> Result<Names, ScriptCause>
+        ensures { Finds (some_names self.old) result self.new }
+    {
+        classes::names(alloc, self.word()?)
+    }
+
     /// A link-layer address.
     pub fn mac(&mut self) -> Result<Mac, ScriptCause>
         ensures { a_mac self.old ≡ found result self.new }
@@ -89,6 +97,13 @@ impl<'a> Words<'a> {
         ensures { a_prefix self.old ≡ found result self.new }
     {
         classes::prefix(self.word()?).ok_or(ScriptCause::Prefix)
+    }
+
+    /// An IPv6 prefix.
+    pub fn prefix6(&mut self) -> Result<Prefix6, ScriptCause>
+        ensures { a_prefix6 self.old ≡ found result self.new }
+    {
+        classes::prefix6(self.word()?).ok_or(ScriptCause::Prefix)
     }
 
     /// A kind of which scripts make nodes.
@@ -139,12 +154,12 @@ impl<'a> Words<'a> {
         }
     }
 
-    /// Where a route leads: `via` and an adjacency's name, `local` or `drop`.
-    pub fn target(&mut self) -> Result<RouteWord, ScriptCause>
-        ensures { a_target self.old ≡ found result self.new }
+    /// Where a route leads: `via` and the adjacencies' names, `local` or `drop`.
+    pub fn target(&mut self, alloc: Global) -> Result<RouteWord, ScriptCause>
+        ensures { Finds (a_target self.old) result self.new }
     {
         match self.word()? {
-            b"via" => Ok(RouteWord::Via(self.name()?)),
+            b"via" => Ok(RouteWord::Via(self.names(alloc)?)),
             b"local" => Ok(RouteWord::Local),
             b"drop" => Ok(RouteWord::Drop),
             _ => Err(ScriptCause::Word),

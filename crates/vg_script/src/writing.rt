@@ -3,13 +3,16 @@ ghost use Rattle.std.specs.Prelude.{◌≡◌, ◌<◌, ◌++◌, [], ◌∷◌,
 ghost use Rattle.std.specs.Char.{digit_char};
 ghost use Rattle.std.specs.List.{join_with_byte};
 ghost use Rattle.vg_script.specs.Lawful.{IsLawful};
-ghost use Rattle.vg_script.specs.Plain.{line_text, pair_text, mac_text, address_text, prefix_text, kind_text, target_words, edit_words, edit_lines, group_lines, block_lines, plain};
+ghost use Rattle.vg_script.specs.Plain.{line_text, pair_text, mac_text, address_text, prefix_text, group_text, address6_text, prefix6_text, names_text, kind_text, target_words, edit_words, edit_lines, group_lines, block_lines, plain};
 
+use crate::address6::address_groups;
 use crate::lists::Groups;
 use crate::scripts::{Block, Script};
 use itoa::Buffer;
 use std::alloc::{AllocError, Global};
-use vg_model::{Bytes, Edit, EditLine, Edits, Kind, Mac, Memory, Name, Prefix, RouteWord};
+use vg_model::{
+    Bytes, Edit, EditLine, Edits, Kind, KindWord, Mac, Memory, Name, Prefix, Prefix6, RouteWord,
+};
 
 // Appends these bytes.
 fn put(out: &mut Vec<u8>, bytes: &[u8]) -> Result<(), AllocError>
@@ -113,14 +116,71 @@ fn put_prefix(out: &mut Vec<u8>, prefix: Prefix) -> Result<(), AllocError>
     put_decimal(out, u64::from(prefix.len))
 }
 
+// Appends a group of an IPv6 address, without zeros in front.
+fn put_group(out: &mut Vec<u8>, group: u16) -> Result<(), AllocError>
+    ensures { OnOk result (out.new.items ≡ out.old.items ++ group_text group) }
+{
+    let high = (group / 256) as u8;
+    let low = (group % 256) as u8;
+    if group < 16 {
+        return put(out, &[hex_digit(low)]);
+    }
+    if group >= 4096 {
+        put_pair(out, high)?;
+    } else if group >= 256 {
+        put(out, &[hex_digit(high)])?;
+    }
+    put_pair(out, low)
+}
+
+// Appends groups, parted by `:`.
+fn put_address_groups(out: &mut Vec<u8>, groups: &[u16]) -> Result<(), AllocError>
+    ensures { OnOk result (out.new.items ≡ out.old.items ++ join_with_byte 58 (map group_text groups.now)) }
+{
+    let Some((first, others)) = groups.split_first() else {
+        return Ok(());
+    };
+    put_group(out, *first)?;
+    for group in others {
+        put(out, b":")?;
+        put_group(out, *group)?;
+    }
+    Ok(())
+}
+
+// A further word that is an IPv6 prefix.
+fn put_prefix6(out: &mut Vec<u8>, prefix: Prefix6) -> Result<(), AllocError>
+    ensures { OnOk result (out.new.items ≡ out.old.items ++ 32 ∷ prefix6_text prefix) }
+{
+    put(out, b" ")?;
+    put_address_groups(out, &address_groups(prefix.addr))?;
+    put(out, b"/")?;
+    put_decimal(out, u64::from(prefix.len))
+}
+
+// Appends names, parted by `,`.
+fn put_names(out: &mut Vec<u8>, names: &[Name]) -> Result<(), AllocError>
+    ensures { OnOk result (out.new.items ≡ out.old.items ++ names_text names.now) }
+{
+    let Some((first, others)) = names.split_first() else {
+        return Ok(());
+    };
+    put(out, first.bytes())?;
+    for name in others {
+        put(out, b",")?;
+        put(out, name.bytes())?;
+    }
+    Ok(())
+}
+
 // The further words that say where a route leads.
 fn put_target(out: &mut Vec<u8>, to: &RouteWord) -> Result<(), AllocError>
     ensures { OnOk result (out.new.items ≡ out.old.items ++ flat_map (λ word. 32 ∷ word) (target_words to.now)) }
 {
     match to {
-        RouteWord::Via(name) => {
-            put_word(out, b"via")?;
-            put_word(out, name.bytes())
+        RouteWord::Via(names) => {
+            put(out, b" via ")?;
+            put_names(out, names.as_slice())
         }
         RouteWord::Local => put_word(out, b"local"),
         RouteWord::Drop => put_word(out, b"drop"),
@@ -169,14 +229,28 @@ fn put_interface(
     end_line(out)
 }
 
-// Each kind of a lawful script has a word.
+// A further word that is a kind's: each kind of a lawful script has one.
+fn put_kind(out: &mut Vec<u8>, kind: Kind) -> Result<(), AllocError>
+    ensures { OnOk result (out.new.items ≡ out.old.items ++ 32 ∷ kind_text kind) }
+{
+    put(out, b" ")?;
+    let Some(KindWord { text, number }) = kind.word() else {
+        return Ok(());
+    };
+    put(out, text.as_bytes())?;
+    match number {
+        Some(number) => put_decimal(out, u64::from(number)),
+        None => Ok(()),
+    }
+}
+
 fn put_node(out: &mut Vec<u8>, name: &Name, kind: Kind) -> Result<(), AllocError>
     ensures { OnOk result (out.new.items ≡ out.old.items ++ line_text (edit_words (Edit.Node name.now kind))) }
 {
     put(out, b"node")?;
     put_word(out, name.bytes())?;
     put_word(out, b"kind")?;
-    put_word(out, kind.word().unwrap_or("").as_bytes())?;
+    put_kind(out, kind)?;
     end_line(out)
 }
 
@@ -224,6 +298,23 @@ fn put_unroute(out: &mut Vec<u8>, prefix: Prefix) -> Result<(), AllocError>
     end_line(out)
 }
 
+fn put_route6(out: &mut Vec<u8>, prefix: Prefix6, to: &RouteWord) -> Result<(), AllocError>
+    ensures { OnOk result (out.new.items ≡ out.old.items ++ line_text (edit_words (Edit.Route6 prefix to.now))) }
+{
+    put(out, b"route6")?;
+    put_prefix6(out, prefix)?;
+    put_target(out, to)?;
+    end_line(out)
+}
+
+fn put_unroute6(out: &mut Vec<u8>, prefix: Prefix6) -> Result<(), AllocError>
+    ensures { OnOk result (out.new.items ≡ out.old.items ++ line_text (edit_words (Edit.Unroute6 prefix))) }
+{
+    put(out, b"unroute6")?;
+    put_prefix6(out, prefix)?;
+    end_line(out)
+}
+
 fn put_edit(out: &mut Vec<u8>, edit: &Edit) -> Result<(), AllocError>
     ensures { OnOk result (out.new.items ≡ out.old.items ++ line_text (edit_words edit.now)) }
 {
@@ -244,6 +335,8 @@ fn put_edit(out: &mut Vec<u8>, edit: &Edit) -> Result<(), AllocError>
         } => put_adjacency(out, name, interface, *mac),
         Edit::Route { prefix, to } => put_route(out, *prefix, to),
         Edit::Unroute { prefix } => put_unroute(out, *prefix),
+        Edit::Route6 { prefix, to } => put_route6(out, *prefix, to),
+        Edit::Unroute6 { prefix } => put_unroute6(out, *prefix),
     }
 }
 

@@ -1,7 +1,11 @@
+use std::alloc::Global;
+use std::process::Abort;
 use std::test::Fail;
 use vg_explain::{
     capture_fault, file_named, report_fault, script_fault, turns_fault, turns_named, words_fault,
 };
+use vg_model::Kind;
+use vg_model::kinds::{CONNECT_TEXT, MATCH_TEXT, PUSH_TEXT, REWRITE_TEXT};
 
 #[test]
 fn a_word_is_named_with_what_is_wanted(rt: HostRuntime) -> Result<(), Fail> {
@@ -70,6 +74,149 @@ fn the_word_of_a_script_is_marked(rt: HostRuntime) -> Result<(), Fail> {
     );
     let text = script_fault(alloc, 1, "word", b"nods a\n")?;
     assert!(rt; text.as_str().ends_with("\n  nods a\n  ^^^^\n"));
+    Ok(())
+}
+
+/// Of a script of one line, refused for this cause: the sentence, and the mark under the line.
+fn assert_told(
+    rt: &impl Abort,
+    alloc: Global,
+    cause: &str,
+    script: &str,
+    sentence: &str,
+    mark: &str,
+) -> Result<(), Fail> {
+    let told = script_fault(alloc, 1, cause, script.as_bytes())?;
+    let wanted = format!(in alloc; "{sentence}\n  {script}\n  {mark}\n")?;
+    assert_eq!(rt; told.as_str(), wanted.as_str());
+    Ok(())
+}
+
+#[test]
+fn routes_over_several_neighbors_are_told_of(rt: HostRuntime) -> Result<(), Fail> {
+    let alloc = rt.alloc();
+    let form =
+        "a route is written `route PREFIX via NAMES`, `route PREFIX local` or `route PREFIX drop`";
+    for (script, mark) in [
+        ("route 10.0.0.0/8 over a,b", "                 ^^^^"),
+        ("route 10.0.0.0/8 via", "                    ^"),
+        ("route 10.0.0.0/8 via a ,b", "                       ^^"),
+        ("route 10.0.0.0/8 drop a", "                      ^"),
+    ] {
+        assert_told(&rt, alloc, "word", script, form, mark)?;
+    }
+    let names =
+        "a route leads via 1 to 16 names parted by `,` without blanks, each of 1 to 32 letters, digits, `-`, `_` and `.`";
+    for (script, mark) in [
+        ("route 10.0.0.0/8 via a,,b", "                     ^^^^"),
+        ("route 10.0.0.0/8 via a, b", "                     ^^"),
+        ("route6 ::/0 via a,,b c", "                ^^^^"),
+        (
+            "route 10.0.0.0/8 via a,a,a,a,a,a,a,a,a,a,a,a,a,a,a,a,a",
+            "                     ^^^^^^^^^^^^^^^^^^^^^^^^^^^^^^^^^",
+        ),
+    ] {
+        assert_told(&rt, alloc, "name", script, names, mark)?;
+    }
+    assert_told(
+        &rt,
+        alloc,
+        "name",
+        "arc a,b out c",
+        "a name is 1 to 32 letters, digits, `-`, `_` and `.`",
+        "    ^^^",
+    )?;
+    assert_told(
+        &rt,
+        alloc,
+        "unknown-adjacency",
+        "route 10.0.0.0/8 via a,b",
+        "one of these names is no neighbor's here: `adjacency` makes a neighbor above its first use",
+        "                     ^^^",
+    )?;
+    assert_told(
+        &rt,
+        alloc,
+        "unknown-adjacency",
+        "route6 ::/0 via a",
+        "no neighbor has this name here: `adjacency` makes one above its first use",
+        "                ^",
+    )?;
+    assert_told(
+        &rt,
+        alloc,
+        "too-many",
+        "route6 2001:db8::/32 drop",
+        "there are as many as may be: 64 nodes, 16 interfaces, 256 neighbors, 4096 routes of IPv4 and 4096 of IPv6",
+        "       ^^^^^^^^^^^^^",
+    )
+}
+
+#[test]
+fn routes_of_either_width_are_told_of(rt: HostRuntime) -> Result<(), Fail> {
+    let alloc = rt.alloc();
+    let four =
+        "a prefix is four numbers up to 255 parted by `.`, then `/` and 0 to 32, with no bit set behind that length, as 10.1.0.0/16";
+    let six =
+        "an IPv6 prefix is eight groups of 1 to 4 hexadecimal digits parted by `:`, where `::` may stand once for groups that are 0, then `/` and 0 to 128, with no bit set behind that length, as 2001:db8::/32";
+    for (script, sentence, mark) in [
+        ("route 2001:db8::/32 drop", four, "      ^^^^^^^^^^^^^"),
+        ("unroute 10.0.0.1/8", four, "        ^^^^^^^^^^"),
+        ("route6 10.0.0.0/8 drop", six, "       ^^^^^^^^^^"),
+        ("unroute6 fe80::/8 drop", six, "         ^^^^^^^^"),
+    ] {
+        assert_told(&rt, alloc, "prefix", script, sentence, mark)?;
+    }
+    for (script, sentence, mark) in [
+        (
+            "route6 ::/0 up",
+            "an IPv6 route is written `route6 PREFIX6 via NAMES`, `route6 PREFIX6 local` or `route6 PREFIX6 drop`",
+            "            ^^",
+        ),
+        (
+            "unroute6 ::/0 drop",
+            "an IPv6 route is taken away by `unroute6 PREFIX6`",
+            "              ^^^^",
+        ),
+        (
+            "Route6 ::/0 drop",
+            "a line begins with interface, node, arc, adjacency, route, unroute, route6, unroute6, at, process, then or end",
+            "^^^^^^",
+        ),
+    ] {
+        assert_told(&rt, alloc, "word", script, sentence, mark)?;
+    }
+    assert_told(
+        &rt,
+        alloc,
+        "no-route",
+        "unroute6 ::/0",
+        "there is no route with this very prefix",
+        "         ^^^^",
+    )
+}
+
+#[test]
+fn all_kinds_are_told_of(rt: HostRuntime) -> Result<(), Fail> {
+    let alloc = rt.alloc();
+    let kinds =
+        "the kinds are handoff-flow, handoff-src, handoff-dst, ethernet-input, ip4-input, ip4-lookup, ip4-rewrite, interface-output, interface-tx, pass, \
+        ethernet-dual, ip6-input, ip6-lookup, ip6-rewrite, dot1q-match-N, dot1q-push-N and dot1q-rewrite-N with a VLAN id N from 1 to 4094, and xconnect-N with the \
+        number N of an interface from 0 to 15";
+    assert_told(
+        &rt,
+        alloc,
+        "kind",
+        "node a kind dot1q-push-0",
+        kinds,
+        "            ^^^^^^^^^^^^",
+    )?;
+    for kind in &Kind::PLAIN {
+        assert!(rt; kinds.contains(kind.name().text));
+    }
+    for text in [MATCH_TEXT, PUSH_TEXT, REWRITE_TEXT, CONNECT_TEXT] {
+        assert!(rt; kinds.contains(text));
+    }
     Ok(())
 }
 

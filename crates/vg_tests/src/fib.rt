@@ -7,7 +7,7 @@ use std::process::Abort;
 use std::test::Fail;
 use vg_fib::{Fib, FibError, Mtrie, NoSuchRoute, laws};
 use vg_model::limits::MOST_ROUTES;
-use vg_model::{Prefix, RouteTo};
+use vg_model::{Members, Prefix, RouteTo};
 
 // 0.0.0.0/0, 10.0.0.0/8 and 10.1.0.0/16.
 const EVERYWHERE: Prefix = Prefix { addr: 0, len: 0 };
@@ -22,6 +22,11 @@ const TEN_ONE: Prefix = Prefix {
     len: 16,
 };
 
+// Over one adjacency.
+fn via(number: u16) -> RouteTo {
+    RouteTo::Via(Members::one(number))
+}
+
 // The prefix that covers one address alone.
 fn host(address: u32) -> Prefix {
     Prefix {
@@ -30,38 +35,53 @@ fn host(address: u32) -> Prefix {
     }
 }
 
-// Sets these routes in this order, and looks up three addresses in the table and in its copy.
-fn find_in_order(rt: &impl Abort, alloc: Global, order: &[(Prefix, RouteTo)]) -> Result<(), Fail> {
+// These routes in this order of their places.
+fn in_order(
+    alloc: Global,
+    routes: &[(Prefix, RouteTo)],
+    order: &[usize],
+) -> Result<Vec<(Prefix, RouteTo)>, Fail> {
+    let mut ordered = Vec::new(alloc);
+    for place in order {
+        ordered.push(*routes.get(*place).ok_or("a place")?)?;
+    }
+    Ok(ordered)
+}
+
+// Sets these routes in their order, and looks up three addresses in the table and in its copy.
+fn find_in_order(rt: &impl Abort, alloc: Global, routes: &[(Prefix, RouteTo)]) -> Result<(), Fail> {
     let mut fib = Fib::new(alloc)?;
-    for (prefix, to) in order {
+    for (prefix, to) in routes {
         fib.set(*prefix, *to)?;
     }
-    assert_eq!(rt; fib.routes(), order);
+    assert_eq!(rt; fib.routes(), routes);
     find_longest(rt, &fib);
     let copy = fib.copy()?;
-    assert_eq!(rt; copy.routes(), order);
+    assert_eq!(rt; copy.routes(), routes);
     find_longest(rt, &copy);
     Ok(())
 }
 
 fn find_longest(rt: &impl Abort, fib: &Fib) {
-    assert_eq!(rt; fib.find(0x0a01_0203), Some(RouteTo::Via(16)));
-    assert_eq!(rt; fib.find(0x0a02_0001), Some(RouteTo::Via(8)));
-    assert_eq!(rt; fib.find(0xc000_0201), Some(RouteTo::Via(0)));
+    assert_eq!(rt; fib.find(0x0a01_0203), Some(via(16)));
+    assert_eq!(rt; fib.find(0x0a02_0001), Some(via(8)));
+    assert_eq!(rt; fib.find(0xc000_0201), Some(via(0)));
 }
 
 #[test]
 fn the_longest_prefix_wins_in_any_order(rt: HostRuntime) -> Result<(), Fail> {
     let alloc = rt.alloc();
-    let everywhere = (EVERYWHERE, RouteTo::Via(0));
-    let ten = (TEN, RouteTo::Via(8));
-    let ten_one = (TEN_ONE, RouteTo::Via(16));
-    find_in_order(&rt, alloc, &[everywhere, ten, ten_one])?;
-    find_in_order(&rt, alloc, &[everywhere, ten_one, ten])?;
-    find_in_order(&rt, alloc, &[ten, everywhere, ten_one])?;
-    find_in_order(&rt, alloc, &[ten, ten_one, everywhere])?;
-    find_in_order(&rt, alloc, &[ten_one, everywhere, ten])?;
-    find_in_order(&rt, alloc, &[ten_one, ten, everywhere])?;
+    let routes = [(EVERYWHERE, via(0)), (TEN, via(8)), (TEN_ONE, via(16))];
+    for order in [
+        [0, 1, 2],
+        [0, 2, 1],
+        [1, 0, 2],
+        [1, 2, 0],
+        [2, 0, 1],
+        [2, 1, 0],
+    ] {
+        find_in_order(&rt, alloc, &in_order(alloc, &routes, &order)?)?;
+    }
     Ok(())
 }
 
@@ -75,14 +95,14 @@ fn a_prefix_covers_from_its_first_address_to_its_last(rt: HostRuntime) -> Result
     assert_eq!(rt; fib.find(0x0a01_ffff), Some(RouteTo::Local));
     assert_eq!(rt; fib.find(0x0a02_0000), None);
 
-    fib.set(host(0xffff_ffff), RouteTo::Via(1))?;
+    fib.set(host(0xffff_ffff), via(1))?;
     assert_eq!(rt; fib.find(0xffff_fffe), None);
-    assert_eq!(rt; fib.find(0xffff_ffff), Some(RouteTo::Via(1)));
+    assert_eq!(rt; fib.find(0xffff_ffff), Some(via(1)));
 
     fib.set(EVERYWHERE, RouteTo::Drop)?;
     assert_eq!(rt; fib.find(0), Some(RouteTo::Drop));
     assert_eq!(rt; fib.find(0x0a02_0000), Some(RouteTo::Drop));
-    assert_eq!(rt; fib.find(0xffff_ffff), Some(RouteTo::Via(1)));
+    assert_eq!(rt; fib.find(0xffff_ffff), Some(via(1)));
     Ok(())
 }
 
@@ -90,18 +110,15 @@ fn a_prefix_covers_from_its_first_address_to_its_last(rt: HostRuntime) -> Result
 fn a_prefix_has_one_route_until_it_is_removed(rt: HostRuntime) -> Result<(), Fail> {
     let mut fib = Fib::new(rt.alloc())?;
     assert_eq!(rt; fib.remove(TEN), Err(NoSuchRoute));
-    fib.set(TEN, RouteTo::Via(1))?;
-    fib.set(TEN_ONE, RouteTo::Via(2))?;
-    fib.set(TEN, RouteTo::Via(3))?;
-    assert_eq!(rt;
-        fib.routes(),
-        [(TEN, RouteTo::Via(3)), (TEN_ONE, RouteTo::Via(2))].as_slice()
-    );
-    assert_eq!(rt; fib.find(0x0a01_0203), Some(RouteTo::Via(2)));
+    fib.set(TEN, via(1))?;
+    fib.set(TEN_ONE, via(2))?;
+    fib.set(TEN, via(3))?;
+    assert_eq!(rt; fib.routes(), [(TEN, via(3)), (TEN_ONE, via(2))].as_slice());
+    assert_eq!(rt; fib.find(0x0a01_0203), Some(via(2)));
 
     assert_eq!(rt; fib.remove(TEN_ONE), Ok(()));
     assert_eq!(rt; fib.remove(TEN_ONE), Err(NoSuchRoute));
-    assert_eq!(rt; fib.find(0x0a01_0203), Some(RouteTo::Via(3)));
+    assert_eq!(rt; fib.find(0x0a01_0203), Some(via(3)));
     assert_eq!(rt; fib.remove(TEN), Ok(()));
     assert_eq!(rt; fib.find(0x0a01_0203), None);
     assert!(rt; fib.routes().is_empty());
@@ -121,8 +138,8 @@ fn a_full_table_takes_known_prefixes_alone(rt: HostRuntime) -> Result<(), Fail> 
     fib.set(host(4095), RouteTo::Drop)?;
     assert_eq!(rt; fib.find(4095), Some(RouteTo::Drop));
     fib.remove(host(0))?;
-    fib.set(host(4096), RouteTo::Via(7))?;
-    assert_eq!(rt; fib.find(4096), Some(RouteTo::Via(7)));
+    fib.set(host(4096), via(7))?;
+    assert_eq!(rt; fib.find(4096), Some(via(7)));
     Ok(())
 }
 
@@ -157,23 +174,23 @@ const HOST: Prefix = Prefix {
     len: 32,
 };
 
-// Builds the trie of these routes, set in this order, and looks up an address on each level; where no prefix
+// Builds the trie of these routes, set in their order, and looks up an address on each level; where no prefix
 // but the default route's covers it, this is the target.
 fn build_in_order(
     rt: &impl Abort,
     alloc: Global,
-    order: &[(Prefix, RouteTo)],
+    routes: &[(Prefix, RouteTo)],
     default: Option<RouteTo>,
 ) -> Result<(), Fail> {
     let mut fib = Fib::new(alloc)?;
-    for (prefix, to) in order {
+    for (prefix, to) in routes {
         fib.set(*prefix, *to)?;
     }
     let trie = Mtrie::build(alloc, &fib)?;
     assert_eq!(rt; trie.find(0x0a01_0203), Some(RouteTo::Drop));
-    assert_eq!(rt; trie.find(0x0a01_0204), Some(RouteTo::Via(1)));
-    assert_eq!(rt; trie.find(0x0a01_0280), Some(RouteTo::Via(2)));
-    assert_eq!(rt; trie.find(0x0a01_7fff), Some(RouteTo::Via(0)));
+    assert_eq!(rt; trie.find(0x0a01_0204), Some(via(1)));
+    assert_eq!(rt; trie.find(0x0a01_0280), Some(via(2)));
+    assert_eq!(rt; trie.find(0x0a01_7fff), Some(via(0)));
     assert_eq!(rt; trie.find(0x0a01_8000), default);
     assert_eq!(rt; trie.find(0xffff_ffff), default);
     Ok(())
@@ -182,16 +199,21 @@ fn build_in_order(
 #[test]
 fn a_trie_finds_the_longest_prefix_on_each_level(rt: HostRuntime) -> Result<(), Fail> {
     let alloc = rt.alloc();
-    let half = (HALF, RouteTo::Via(0));
-    let net = (NET, RouteTo::Via(1));
-    let upper = (UPPER, RouteTo::Via(2));
-    let one = (HOST, RouteTo::Drop);
-    let everywhere = (EVERYWHERE, RouteTo::Local);
-    let local = Some(RouteTo::Local);
-    build_in_order(&rt, alloc, &[half, net, upper, one, everywhere], local)?;
-    build_in_order(&rt, alloc, &[everywhere, one, upper, net, half], local)?;
-    build_in_order(&rt, alloc, &[half, net, upper, one], None)?;
-    build_in_order(&rt, alloc, &[one, upper, net, half], None)?;
+    let routes = [
+        (HALF, via(0)),
+        (NET, via(1)),
+        (UPPER, via(2)),
+        (HOST, RouteTo::Drop),
+        (EVERYWHERE, RouteTo::Local),
+    ];
+    for (order, default) in [
+        ([0, 1, 2, 3, 4].as_slice(), Some(RouteTo::Local)),
+        ([4, 3, 2, 1, 0].as_slice(), Some(RouteTo::Local)),
+        ([0, 1, 2, 3].as_slice(), None),
+        ([3, 2, 1, 0].as_slice(), None),
+    ] {
+        build_in_order(&rt, alloc, &in_order(alloc, &routes, order)?, default)?;
+    }
     Ok(())
 }
 
@@ -203,6 +225,32 @@ fn prefix_of(address: u32, len: u8) -> Prefix
     Prefix {
         addr: ((u64::from(address) >> host_bits) << host_bits) as u32,
         len,
+    }
+}
+
+#[test]
+fn a_hash_picks_one_of_several_adjacencies(rt: HostRuntime) -> Result<(), Fail> {
+    let alloc = rt.alloc();
+    let mut fib = Fib::new(alloc)?;
+    let two = Members::of(&[0, 1]).ok_or("two")?;
+    let three = Members::of(&[1, 1, 0]).ok_or("three")?;
+    fib.set(TEN_ONE, RouteTo::Via(two))?;
+    let trie = Mtrie::build(alloc, &fib)?;
+    assert_eq!(rt; picked(&trie, 0x0a01_0203, 0xcacb_cbc9), Some(1));
+    assert_eq!(rt; picked(&trie, 0x0a01_020b, 0xcacb_cbc1), Some(0));
+    assert_eq!(rt; picked(&trie, 0x0a02_0001, 0xcacb_cbc1), None);
+    fib.set(TEN_ONE, RouteTo::Via(three))?;
+    let trie = trie.renewed(alloc, &fib)?;
+    assert_eq!(rt; picked(&trie, 0x0a01_0203, 0xcacb_cbc9), Some(0));
+    assert_eq!(rt; trie.find(0x0a01_0203), Some(RouteTo::Via(three)));
+    Ok(())
+}
+
+// The adjacency that a packet with this hash takes to an address.
+fn picked(trie: &Mtrie, address: u32, hash: u32) -> Option<u16> {
+    match trie.target(address) {
+        Some(RouteTo::Via(members)) => Some(members.member(hash)),
+        _ => None,
     }
 }
 
@@ -237,10 +285,7 @@ fn trie_and_table_agree_at_the_ends_of_each_prefix(rt: HostRuntime) -> Result<()
             0x0a01_0000 | (address >> 16)
         };
         if fib.routes().len() < MOST_ROUTES {
-            fib.set(
-                prefix_of(near, (turn % 33) as u8),
-                RouteTo::Via(turn as u16),
-            )?;
+            fib.set(prefix_of(near, (turn % 33) as u8), via(turn as u16))?;
         }
     }
     assert_eq!(rt; fib.routes().len(), MOST_ROUTES);
@@ -254,18 +299,18 @@ fn a_trie_follows_its_table(rt: HostRuntime) -> Result<(), Fail> {
     let alloc = rt.alloc();
     let mut fib = Fib::new(alloc)?;
     fib.set(HOST, RouteTo::Drop)?;
-    fib.set(NET, RouteTo::Via(1))?;
+    fib.set(NET, via(1))?;
     let trie = Mtrie::build(alloc, &fib)?;
     // A target changes, and prefixes come that lie under and over those that are there.
-    fib.set(NET, RouteTo::Via(5))?;
-    fib.set(HALF, RouteTo::Via(0))?;
-    fib.set(UPPER, RouteTo::Via(2))?;
+    fib.set(NET, via(5))?;
+    fib.set(HALF, via(0))?;
+    fib.set(UPPER, via(2))?;
     fib.set(EVERYWHERE, RouteTo::Local)?;
     let trie = trie.renewed(alloc, &fib)?;
     assert_eq!(rt; trie.find(0x0a01_0203), Some(RouteTo::Drop));
-    assert_eq!(rt; trie.find(0x0a01_0204), Some(RouteTo::Via(5)));
-    assert_eq!(rt; trie.find(0x0a01_0280), Some(RouteTo::Via(2)));
-    assert_eq!(rt; trie.find(0x0a01_7fff), Some(RouteTo::Via(0)));
+    assert_eq!(rt; trie.find(0x0a01_0204), Some(via(5)));
+    assert_eq!(rt; trie.find(0x0a01_0280), Some(via(2)));
+    assert_eq!(rt; trie.find(0x0a01_7fff), Some(via(0)));
     assert_eq!(rt; trie.find(0x0a01_8000), Some(RouteTo::Local));
     assert_eq!(rt; trie.find(0xffff_ffff), Some(RouteTo::Local));
     agree_at_ends(&rt, &fib, &trie);
@@ -273,8 +318,8 @@ fn a_trie_follows_its_table(rt: HostRuntime) -> Result<(), Fail> {
     fib.remove(HOST)?;
     fib.remove(EVERYWHERE)?;
     let trie = trie.renewed(alloc, &fib)?;
-    assert_eq!(rt; trie.find(0x0a01_0203), Some(RouteTo::Via(5)));
-    assert_eq!(rt; trie.find(0x0a01_0280), Some(RouteTo::Via(2)));
+    assert_eq!(rt; trie.find(0x0a01_0203), Some(via(5)));
+    assert_eq!(rt; trie.find(0x0a01_0280), Some(via(2)));
     assert_eq!(rt; trie.find(0x0a01_8000), None);
     agree_at_ends(&rt, &fib, &trie);
     Ok(())
@@ -284,15 +329,15 @@ fn a_trie_follows_its_table(rt: HostRuntime) -> Result<(), Fail> {
 fn a_table_is_renewed_from_another(rt: HostRuntime) -> Result<(), Fail> {
     let alloc = rt.alloc();
     let mut fib = Fib::new(alloc)?;
-    fib.set(TEN, RouteTo::Via(1))?;
-    fib.set(TEN_ONE, RouteTo::Via(2))?;
+    fib.set(TEN, via(1))?;
+    fib.set(TEN_ONE, via(2))?;
     let mut other = Fib::new(alloc)?;
     other.set(HOST, RouteTo::Drop)?;
     let mut other = other.renewed(&fib)?;
     assert_eq!(rt; other.routes(), fib.routes());
     other.set(TEN, RouteTo::Local)?;
     assert_eq!(rt; other.find(0x0a02_0001), Some(RouteTo::Local));
-    assert_eq!(rt; fib.find(0x0a02_0001), Some(RouteTo::Via(1)));
+    assert_eq!(rt; fib.find(0x0a02_0001), Some(via(1)));
     Ok(())
 }
 

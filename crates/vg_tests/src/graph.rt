@@ -3,7 +3,7 @@
 use std::alloc::Global;
 use std::test::Fail;
 use vg_graph::*;
-use vg_model::{Edit, Interface, Kind, Mac, Name};
+use vg_model::{Edit, Interface, Kind, Mac, Name, VlanId};
 
 fn started(alloc: Global) -> Result<Graph, Fail> {
     Ok(Graph::start(alloc).map_err(|_| "no memory")?)
@@ -249,5 +249,55 @@ fn at_most_256_adjacencies_are_added(rt: HostRuntime) -> Result<(), Fail> {
         (graph.adjacencies(), graph.adjacency(&numbered(256)?)),
         (256, None)
     );
+    Ok(())
+}
+
+#[test]
+fn a_new_node_of_two_slots_drops_over_both(rt: HostRuntime) -> Result<(), Fail> {
+    let mut graph = started(rt.alloc())?;
+    let cut = name("cut")?;
+    let kind = Kind::Dot1qMatch(VlanId { number: 100 });
+    graph
+        .apply(&Edit::Node {
+            name: name("cut")?,
+            kind,
+        })
+        .map_err(|_| "a node")?;
+    let n = graph.node(&cut).ok_or("the node")?;
+    assert!(rt; graph.kind(n) == kind);
+    assert!(rt; graph.kind(n).slots() == 2);
+    assert_eq!(rt; (graph.arc(n, 0), graph.arc(n, 1)), (8, 8));
+    // The second slot is led away, and the first stays.
+    let answer = set_arc(
+        &mut graph,
+        name("cut")?,
+        name("else")?,
+        name("ethernet-input")?,
+    );
+    assert_eq!(rt; answer, Ok(()));
+    assert!(rt; n < graph.nodes() && graph.kind(n) == kind);
+    assert_eq!(rt; (graph.arc(n, 0), graph.arc(n, 1)), (8, 2));
+    // A walk over the second slot is one too.
+    let answer = set_arc(
+        &mut graph,
+        name("ip4-rewrite")?,
+        name("output")?,
+        name("cut")?,
+    );
+    assert_eq!(rt; answer, Err(GraphError::Cycle));
+    let answer = set_arc(
+        &mut graph,
+        name("cut")?,
+        name("match")?,
+        name("interface-tx")?,
+    );
+    assert_eq!(rt; answer, Ok(()));
+    let answer = set_arc(
+        &mut graph,
+        name("cut")?,
+        name("out")?,
+        name("interface-tx")?,
+    );
+    assert_eq!(rt; answer, Err(GraphError::UnknownSlot));
     Ok(())
 }

@@ -13,6 +13,8 @@ mod fates;
 #[cfg(test)]
 mod fib;
 #[cfg(test)]
+mod fib6;
+#[cfg(test)]
 mod graph;
 #[cfg(test)]
 mod load;
@@ -24,6 +26,8 @@ mod outside;
 mod packet;
 #[cfg(test)]
 mod plan;
+#[cfg(test)]
+mod plan_routes;
 #[cfg(test)]
 mod process;
 #[cfg(test)]

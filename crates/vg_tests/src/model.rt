@@ -1,5 +1,6 @@
 //! Tests of the types: names, lists, and the tables of errors and kinds.
 
+use std::process::Abort;
 use std::test::Fail;
 use vg_model::{laws, *};
 
@@ -122,53 +123,228 @@ fn errors_have_their_numbers_and_words(rt: HostRuntime) {
     }
 }
 
+/// What the formats say of a kind.
+#[derive(Clone, Copy)]
+struct KindRow {
+    kind: Kind,
+    name: KindWord,
+    /// Scripts make nodes of it, by its name.
+    in_scripts: bool,
+    slots: &'static [&'static str],
+    /// Packets come into its nodes by no arc.
+    is_source: bool,
+}
+
+/// A kind with a number behind its text.
+fn numbered(
+    kind: Kind,
+    text: &'static str,
+    number: u16,
+    in_scripts: bool,
+    slots: &'static [&'static str],
+) -> KindRow {
+    KindRow {
+        kind,
+        name: KindWord {
+            text,
+            number: Some(number),
+        },
+        in_scripts,
+        slots,
+        is_source: false,
+    }
+}
+
+/// Asserts that the kind is as its row says.
+fn assert_kind(rt: &impl Abort, row: KindRow) {
+    let kind = row.kind;
+    let word = if row.in_scripts { Some(row.name) } else { None };
+    assert_eq!(rt; kind.name(), row.name);
+    assert_eq!(rt; kind.word(), word, "{kind:?}");
+    assert_eq!(rt; kind.slot_names(), row.slots, "{kind:?}");
+    assert_eq!(rt; kind.slots() as usize, row.slots.len(), "{kind:?}");
+    for (place, slot) in row.slots.iter().enumerate() {
+        assert_eq!(rt; kind.slot(slot.as_bytes()).map(usize::from), Some(place));
+    }
+    assert_eq!(rt; kind.slot(b"no-slot"), None, "{kind:?}");
+    assert_eq!(rt; kind.is_source(), row.is_source, "{kind:?}");
+}
+
+/// The kinds without a number: their texts, whether scripts make nodes of them, their slots, and whether packets come in by no arc.
+const WITHOUT_NUMBERS: [(Kind, &str, bool, &[&str], bool); 17] = [
+    (Kind::PgInput, "pg-input", false, &["out"], true),
+    (Kind::HandoffDequeue, "handoff-dequeue", false, &[], true),
+    (Kind::ErrorDrop, "error-drop", false, &[], false),
+    (
+        Kind::WorkerHandoff(HashKind::Flow),
+        "handoff-flow",
+        true,
+        &["resume"],
+        false,
+    ),
+    (
+        Kind::WorkerHandoff(HashKind::Src),
+        "handoff-src",
+        true,
+        &["resume"],
+        false,
+    ),
+    (
+        Kind::WorkerHandoff(HashKind::Dst),
+        "handoff-dst",
+        true,
+        &["resume"],
+        false,
+    ),
+    (Kind::EthernetInput, "ethernet-input", true, &["ip4"], false),
+    (Kind::Ip4Input, "ip4-input", true, &["lookup"], false),
+    (Kind::Ip4Lookup, "ip4-lookup", true, &["rewrite"], false),
+    (Kind::Ip4Rewrite, "ip4-rewrite", true, &["output"], false),
+    (
+        Kind::InterfaceOutput,
+        "interface-output",
+        true,
+        &["tx"],
+        false,
+    ),
+    (Kind::InterfaceTx, "interface-tx", true, &[], false),
+    (Kind::Pass, "pass", true, &["out"], false),
+    (
+        Kind::EthernetDual,
+        "ethernet-dual",
+        true,
+        &["ip4", "ip6"],
+        false,
+    ),
+    (Kind::Ip6Input, "ip6-input", true, &["lookup"], false),
+    (Kind::Ip6Lookup, "ip6-lookup", true, &["rewrite"], false),
+    (Kind::Ip6Rewrite, "ip6-rewrite", true, &["output"], false),
+];
+
 #[test]
-fn kinds_have_their_words_and_slots(rt: HostRuntime) {
-    let kinds = [
-        (Kind::PgInput, None, Some("out")),
-        (Kind::HandoffDequeue, None, None),
-        (
-            Kind::WorkerHandoff(HashKind::Flow),
-            Some("handoff-flow"),
-            Some("resume"),
-        ),
-        (
-            Kind::WorkerHandoff(HashKind::Src),
-            Some("handoff-src"),
-            Some("resume"),
-        ),
-        (
-            Kind::WorkerHandoff(HashKind::Dst),
-            Some("handoff-dst"),
-            Some("resume"),
-        ),
-        (Kind::EthernetInput, Some("ethernet-input"), Some("ip4")),
-        (Kind::Ip4Input, Some("ip4-input"), Some("lookup")),
-        (Kind::Ip4Lookup, Some("ip4-lookup"), Some("rewrite")),
-        (Kind::Ip4Rewrite, Some("ip4-rewrite"), Some("output")),
-        (Kind::InterfaceOutput, Some("interface-output"), Some("tx")),
-        (Kind::InterfaceTx, Some("interface-tx"), None),
-        (Kind::ErrorDrop, None, None),
-        (Kind::Pass, Some("pass"), Some("out")),
-    ];
-    for (kind, word, slot) in kinds {
-        assert_eq!(rt; kind.word(), word);
-        assert_eq!(rt; kind.slot(b"no-slot"), None);
-        match slot {
-            None => assert_eq!(rt; kind.slots(), 0),
-            Some(name) => {
-                assert_eq!(rt; kind.slots(), 1);
-                assert_eq!(rt; kind.slot(name.as_bytes()), Some(0));
-            }
+fn kinds_without_numbers_are_as_the_formats_say(rt: HostRuntime) {
+    for (kind, text, in_scripts, slots, is_source) in WITHOUT_NUMBERS {
+        assert_kind(
+            &rt,
+            KindRow {
+                kind,
+                name: KindWord { text, number: None },
+                in_scripts,
+                slots,
+                is_source,
+            },
+        );
+    }
+}
+
+#[test]
+fn kinds_with_numbers_are_as_the_formats_say(rt: HostRuntime) {
+    for id in [
+        VlanId { number: 1 },
+        VlanId { number: 100 },
+        VlanId { number: 4094 },
+    ] {
+        let number = id.number;
+        for row in [
+            numbered(
+                Kind::Dot1qMatch(id),
+                "dot1q-match-",
+                number,
+                true,
+                &["match", "else"],
+            ),
+            numbered(Kind::Dot1qPush(id), "dot1q-push-", number, true, &["out"]),
+            numbered(
+                Kind::Dot1qRewrite(id),
+                "dot1q-rewrite-",
+                number,
+                true,
+                &["out"],
+            ),
+        ] {
+            assert_kind(&rt, row);
         }
     }
+    // A graph has at most the interfaces 0 to 15.
+    for (interface, in_scripts) in [(0, true), (9, true), (15, true), (16, false), (255, false)] {
+        let kind = Kind::CrossConnect(interface);
+        let number = u16::from(interface);
+        assert_kind(
+            &rt,
+            numbered(kind, "xconnect-", number, in_scripts, &["out"]),
+        );
+    }
+}
+
+#[test]
+fn kinds_without_a_number_are_listed_once(rt: HostRuntime) {
+    for (place, kind) in Kind::PLAIN.iter().enumerate() {
+        assert_eq!(rt; kind.word(), Some(kind.name()), "{kind:?}");
+        assert_eq!(rt; kind.name().number, None, "{kind:?}");
+        assert_eq!(rt;
+            Kind::PLAIN.iter().position(|other| other == kind),
+            Some(place)
+        );
+    }
+}
+
+#[test]
+fn members_are_1_to_16_in_their_order(rt: HostRuntime) -> Result<(), Fail> {
+    assert_eq!(rt; Members::of(&[]), None);
+    let one = Members::of(&[7]).ok_or("one")?;
+    assert_eq!(rt; one, Members::one(7));
+    assert_eq!(rt; one.as_slice(), [7].as_slice());
+    let mut all = Members::one(0);
+    for number in 1..16 {
+        assert!(rt; all.as_slice().len() < 16);
+        all.push(number);
+    }
+    let sixteen = [0, 1, 2, 3, 4, 5, 6, 7, 8, 9, 10, 11, 12, 13, 14, 15];
+    assert_eq!(rt; all.as_slice(), sixteen.as_slice());
+    assert_eq!(rt; Members::of(&sixteen), Some(all));
+    let more = [0, 1, 2, 3, 4, 5, 6, 7, 8, 9, 10, 11, 12, 13, 14, 15, 16];
+    assert_eq!(rt; Members::of(&more), None);
+    assert_ne!(rt; one, all);
+    Ok(())
+}
+
+#[test]
+fn a_hash_picks_a_member_by_all_but_its_lowest_three_bits(rt: HostRuntime) -> Result<(), Fail> {
+    let two = Members::of(&[10, 11]).ok_or("two")?;
+    // 0xcacbcbc9 div 8 is 425294201, and 0xcacbcbc1 div 8 one less.
+    assert_eq!(rt; two.member(0xcacb_cbc9), 11);
+    assert_eq!(rt; two.member(0xcacb_cbc1), 10);
+    assert_eq!(rt; two.member(0), 10);
+    assert_eq!(rt; two.member(7), 10);
+    assert_eq!(rt; two.member(8), 11);
+    assert_eq!(rt; two.member(15), 11);
+    assert_eq!(rt; two.member(16), 10);
+    // 425294201 mod 3 is 2.
+    let three = Members::of(&[1, 1, 0]).ok_or("three")?;
+    assert_eq!(rt; three.member(0xcacb_cbc9), 0);
+    assert_eq!(rt; three.member(u32::MAX), 1);
+    assert_eq!(rt; Members::one(9).member(u32::MAX), 9);
+    Ok(())
+}
+
+#[test]
+fn names_are_kept_in_their_order(rt: HostRuntime) -> Result<(), Fail> {
+    let a = Name::of(b"a").ok_or("a name")?;
+    let b = Name::of(b"b").ok_or("a name")?;
+    let names = Names::from_vec(vec![in rt.alloc(); a, b]?);
+    assert_eq!(rt; names.as_slice().len(), 2);
+    assert_eq!(rt; names.into_vec().len(), 2);
+    Ok(())
 }
 
 #[test]
 fn laws_can_be_called() {
     laws::start_is_valid();
     laws::ip4_kinds_are_lawful();
+    laws::ip4_kinds_leave_the_room();
     laws::legs_end();
     laws::sum_may_be_folded_at_the_end();
     laws::errors_are_in_order();
+    laws::limits_are_those_defined();
+    laws::start_numbers_are_those_defined();
 }

@@ -4,7 +4,7 @@ use std::alloc::Global;
 use std::process::Abort;
 use std::test::Fail;
 use vg_capture::{Capture, Captured, Packets};
-use vg_model::{Bytes, Edits, RouteTo};
+use vg_model::{Bytes, Edits, Members, RouteTo};
 use vg_plan::*;
 use vg_script::{Block, Groups, ScriptCause, ScriptError, parse_script};
 
@@ -153,7 +153,10 @@ fn a_route_flaps(rt: HostRuntime) -> Result<(), Fail> {
     assert_eq!(rt; groups.len(), 2);
     let local = edits_of(&plan, 1).ok_or("no at")?;
     let mut master = master_of(rt.alloc(), &plan)?;
-    assert_eq!(rt; master.fib().find(ADDRESS), Some(RouteTo::Via(0)));
+    assert_eq!(rt;
+        master.fib().find(ADDRESS),
+        Some(RouteTo::Via(Members::one(0)))
+    );
     assert_eq!(rt;
         route_after(rt.alloc(), &mut master, &groups[0])?,
         Some(RouteTo::Drop)
@@ -164,7 +167,7 @@ fn a_route_flaps(rt: HostRuntime) -> Result<(), Fail> {
     );
     assert_eq!(rt;
         route_after(rt.alloc(), &mut master, &groups[1])?,
-        Some(RouteTo::Via(0))
+        Some(RouteTo::Via(Members::one(0)))
     );
     Ok(())
 }
@@ -218,7 +221,7 @@ fn generations_come_one_after_the_other(rt: HostRuntime) -> Result<(), Fail> {
     let generations = Generations::of(rt.alloc(), &plan).map_err(|_| "no memory")?;
     assert_eq!(rt;
         generations.master().fib().find(ADDRESS),
-        Some(RouteTo::Via(0))
+        Some(RouteTo::Via(Members::one(0)))
     );
     assert!(rt; plan.generations() == 5);
     let later = generations.advance().map_err(|_| "no memory")?;

@@ -2,6 +2,7 @@
 
 use std::alloc::Global;
 use std::test::Fail;
+use vg_model::{Edit, Name, Prefix6, RouteWord};
 use vg_process::{Due, Processes};
 use vg_script::parse_script;
 
@@ -44,5 +45,60 @@ fn events_come_by_time_and_then_by_line(rt: HostRuntime) -> Result<(), Fail> {
     assert_eq!(rt; next_due(&mut processes, 1000)?, Some((300, 1, 1)));
     assert_eq!(rt; next_due(&mut processes, 1000)?, None);
     assert_eq!(rt; processes.next_time(), None);
+    Ok(())
+}
+
+/// Routes over several neighbors, set anew in each period.
+const SEVERAL: &[u8] =
+    b"process p every 10 count 2\nroute 10.0.0.0/8 via b,a,b\nroute6 2001:db8::/32 via a,c\nunroute6 2001:db8::/32\nend\n";
+
+/// The neighbors that an edit leads a route over; none of another edit.
+fn neighbors(edit: &Edit) -> &[Name] {
+    match edit {
+        Edit::Route { to, .. } | Edit::Route6 { to, .. } => match to {
+            RouteWord::Via(names) => names.as_slice(),
+            RouteWord::Local | RouteWord::Drop => &[],
+        },
+        _ => &[],
+    }
+}
+
+/// The IPv6 prefix of an edit that has one.
+fn prefix6(edit: &Edit) -> Option<Prefix6> {
+    match edit {
+        Edit::Route6 { prefix, .. } | Edit::Unroute6 { prefix } => Some(*prefix),
+        _ => None,
+    }
+}
+
+fn are_named(names: &[Name], texts: &[&str]) -> bool {
+    names.len() == texts.len()
+        && names
+            .iter()
+            .zip(texts)
+            .all(|(name, text)| name.bytes() == text.as_bytes())
+}
+
+#[test]
+fn each_run_has_the_whole_routes(rt: HostRuntime) -> Result<(), Fail> {
+    let mut processes = processes_of(rt.alloc(), SEVERAL)?;
+    for time in [10, 20] {
+        let due = processes
+            .poll(time)
+            .map_err(|_| "no memory")?
+            .ok_or("no event")?;
+        assert_eq!(rt; due.time, time);
+        let edits = due.edits.as_slice();
+        assert_eq!(rt; edits.len(), 3);
+        assert!(rt; are_named(neighbors(&edits[0].edit), &["b", "a", "b"]));
+        assert!(rt; are_named(neighbors(&edits[1].edit), &["a", "c"]));
+        assert_eq!(rt; edits[2].line, 4);
+        for edit in &edits[1..] {
+            let prefix = prefix6(&edit.edit).ok_or("no IPv6 prefix")?;
+            assert_eq!(rt; prefix.addr, 0x2001_0db8_0000_0000_0000_0000_0000_0000);
+            assert_eq!(rt; prefix.len, 32);
+        }
+    }
+    assert_eq!(rt; next_due(&mut processes, u64::MAX)?, None);
     Ok(())
 }

@@ -1,20 +1,23 @@
 //! Tests of the reader, of its refusals, of the lists of a script, and of its text.
 
+mod prefixes;
+mod spellings;
 mod writing;
 
 use std::alloc::Global;
 use std::process::Abort;
+use std::str;
 use std::test::Fail;
-use vg_model::{Edit, Edits, HashKind, Kind, Mac, RouteWord};
+use vg_model::{Edit, EditLine, Edits, HashKind, Kind, Mac, Names, RouteWord, VlanId};
 use vg_script::*;
 
 /// Asserts that a text is refused at a line with a cause.
 fn assert_refused(rt: &impl Abort, alloc: Global, text: &[u8], line: u32, cause: ScriptCause) {
+    let words = str::from_utf8(text);
     match parse_script(alloc, text) {
-        Ok(_) => assert!(rt; false, "read"),
+        Ok(_) => assert!(rt; false, "read: {words:?}"),
         Err(error) => {
-            assert_eq!(rt; error.line, line);
-            assert_eq!(rt; error.cause, cause);
+            assert_eq!(rt; (error.line, error.cause), (line, cause), "{words:?}");
         }
     }
 }
@@ -46,6 +49,14 @@ fn reads_nodes_arcs_and_comments(rt: HostRuntime) -> Result<(), Fail> {
     Ok(())
 }
 
+/// Asserts that these are the names.
+fn assert_names(rt: &impl Abort, names: &Names, expected: &[&str]) {
+    assert_eq!(rt; names.as_slice().len(), expected.len());
+    for (name, text) in names.as_slice().iter().zip(expected) {
+        assert_eq!(rt; name.as_str(), *text);
+    }
+}
+
 #[test]
 fn reads_interfaces_and_routes(rt: HostRuntime) -> Result<(), Fail> {
     let text =
@@ -72,13 +83,108 @@ fn reads_interfaces_and_routes(rt: HostRuntime) -> Result<(), Fail> {
     match &edits[1].edit {
         Edit::Route {
             prefix,
-            to: RouteWord::Via(name),
+            to: RouteWord::Via(names),
         } => {
             assert_eq!(rt; prefix.addr, 0x0a01_0000);
             assert_eq!(rt; prefix.len, 16);
-            assert_eq!(rt; name.as_str(), "next");
+            assert_names(&rt, names, &["next"]);
         }
         _ => assert!(rt; false, "no route"),
+    }
+    Ok(())
+}
+
+#[test]
+fn a_route_names_1_to_16_adjacencies(rt: HostRuntime) -> Result<(), Fail> {
+    let alloc = rt.alloc();
+    let sixteen = b"route 0.0.0.0/0 via a,b,c,d,e,f,g,h,i,j,k,l,m,n,o,p\n";
+    let script = parse_script(alloc, sixteen)?;
+    let text = print_script(alloc, &script).expect(&rt, "memory");
+    assert_eq!(rt; text.as_slice(), sixteen.as_slice());
+    let refused: [&[u8]; 4] = [
+        b"route 10.0.0.0/8 via a,b:c",
+        b"route 10.0.0.0/8 via a,b;c d",
+        b"route 10.0.0.0/8 via a,012345678901234567890123456789012",
+        b"route 0.0.0.0/0 via a,b,c,d,e,f,g,h,i,j,k,l,m,n,o,p,q",
+    ];
+    for text in refused {
+        assert_refused(&rt, alloc, text, 1, ScriptCause::Name);
+    }
+    assert_refused(
+        &rt,
+        alloc,
+        b"route 10.0.0.0/8 via a b",
+        1,
+        ScriptCause::Word,
+    );
+    assert_refused(&rt, alloc, b"route 10.0.0.0/8 via", 1, ScriptCause::Word);
+    Ok(())
+}
+
+/// The kind of the one node of a script.
+fn read_kind(alloc: Global, word: &str) -> Result<Kind, Fail> {
+    let mut text = Vec::new(alloc);
+    text.extend_from_slice(b"node a kind ")?;
+    text.extend_from_slice(word.as_bytes())?;
+    text.extend_from_slice(b"\n")?;
+    let script = parse_script(alloc, &text)?;
+    let printed = print_script(alloc, &script).map_err(|_| "memory")?;
+    if printed.as_slice() != text.as_slice() {
+        return Err("another text".into());
+    }
+    match script.start.as_slice() {
+        [
+            EditLine {
+                edit: Edit::Node { kind, .. },
+                ..
+            },
+        ] => Ok(*kind),
+        _ => Err("one node".into()),
+    }
+}
+
+#[test]
+fn kinds_with_and_without_numbers_are_read(rt: HostRuntime) -> Result<(), Fail> {
+    let kinds = [
+        ("ethernet-dual", Kind::EthernetDual),
+        ("ip6-input", Kind::Ip6Input),
+        ("ip6-lookup", Kind::Ip6Lookup),
+        ("ip6-rewrite", Kind::Ip6Rewrite),
+        ("dot1q-match-1", Kind::Dot1qMatch(VlanId { number: 1 })),
+        (
+            "dot1q-match-4094",
+            Kind::Dot1qMatch(VlanId { number: 4094 }),
+        ),
+        ("dot1q-push-200", Kind::Dot1qPush(VlanId { number: 200 })),
+        (
+            "dot1q-rewrite-300",
+            Kind::Dot1qRewrite(VlanId { number: 300 }),
+        ),
+        ("xconnect-0", Kind::CrossConnect(0)),
+        ("xconnect-15", Kind::CrossConnect(15)),
+        ("pass", Kind::Pass),
+    ];
+    for (word, kind) in kinds {
+        assert_eq!(rt; read_kind(rt.alloc(), word)?, kind, "{word}");
+    }
+    let refused: [&[u8]; 14] = [
+        b"node x kind dot1q-push-0",
+        b"node x kind dot1q-push-",
+        b"node x kind dot1q-push",
+        b"node x kind dot1q-match-4095",
+        b"node x kind dot1q-match-01",
+        b"node x kind dot1q-match-+1",
+        b"node x kind dot1q-match--1",
+        b"node x kind dot1q-match-1x",
+        b"node x kind dot1q-rewrite-65537",
+        b"node x kind xconnect-16",
+        b"node x kind xconnect-00",
+        b"node x kind xconnect-",
+        b"node x kind Xconnect-1",
+        b"node x kind dot1q-match-18446744073709551617",
+    ];
+    for text in refused {
+        assert_refused(&rt, rt.alloc(), text, 1, ScriptCause::Kind);
     }
     Ok(())
 }

@@ -6,11 +6,10 @@ use Rattle.std.proofs.lemmas.List.{length-map}
 use Rattle.std.proofs.lemmas.List.FromFn.{length-enumerate_from}
 use Rattle.std.proofs.lemmas.Option.{none-some, same_Some}
 use Rattle.vg_model.specs.Edit.{Cause, apply_all}
-use Rattle.vg_model.specs.Graph.{Graph}
+use Rattle.vg_model.specs.Graph.{Graph, with_routes}
 use Rattle.vg_capture.specs.declared.captures.Capture.{Capture}
 use Rattle.vg_script.specs.Events.{Event, events}
 use Rattle.vg_plan.specs.Plan.{Planned, IsPlan, windows, limit_of}
-use Rattle.vg_plan.specs.Routed.{with_routes}
 use Rattle.vg_plan.proofs.GenerationLemmas.{length_graphs, all_made}
 use Rattle.vg_threads.specs.Turns.{MakesNext, CanMakeNext, IsAt, IsLastGraph}
 
@@ -96,7 +95,7 @@ next_at plan generation left rest before after is at makes =
 
 -- the graph of the last generation
 pub last_graph_is : (plan : Planned) (generation : ℕ) (left : List Event) (g part : Graph) → IsAt plan generation left g → generation + 1 ≡ length plan.graphs
-    → with_routes part g.routes ≡ g → IsLastGraph plan.graphs part
+    → with_routes part g.routes g.routes6 ≡ g → IsLastGraph plan.graphs part
 last_graph_is plan generation left g part at end parts =
     record {
       whole = g;

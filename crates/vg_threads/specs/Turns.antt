@@ -1,10 +1,9 @@
 -- From one generation to the next.
 use Rattle.std.specs.Prelude.{◌≡◌, ℕ, ◌-◌, List, ◌∷◌, length, drop, slice_get, Some, Ok}
 use Rattle.vg_model.specs.Edit.{apply_all}
-use Rattle.vg_model.specs.Graph.{Graph}
+use Rattle.vg_model.specs.Graph.{Graph, with_routes}
 use Rattle.vg_script.specs.Events.{Event, events}
 use Rattle.vg_plan.specs.Plan.{Planned}
-use Rattle.vg_plan.specs.Routed.{with_routes}
 
 -- the edits of the first event that was left are made
 pub record MakesNext (left : List Event) (before : Graph) (rest : List Event) (after : Graph) : Type 0 where
@@ -25,4 +24,4 @@ pub record IsAt (plan : Planned) (generation : ℕ) (events_left : List Event) (
 pub record IsLastGraph (graphs : List Graph) (g : Graph) : Type 0 where
   pub whole : Graph
   pub is : slice_get graphs (length graphs - 1) ≡ Some whole
-  pub parts : with_routes g whole.routes ≡ whole
+  pub parts : with_routes g whole.routes whole.routes6 ≡ whole

@@ -16,14 +16,16 @@ fn fork_of(
 ) -> Result<Fork, Memory>
     ensures { IfOk result (λ fork. fork ≡ record { graph = master.now; generation = generation }) }
 {
+    let graph = master.graph();
+    let (fib, fib6) = (master.fib(), master.fib6());
     match spare {
-        Some(fork) => fork.renewed(alloc, master.graph(), master.fib(), generation),
-        None => Fork::of(alloc, master.graph(), master.fib(), generation),
+        Some(fork) => fork.renewed(alloc, graph, fib, fib6, generation),
+        None => Fork::of(alloc, graph, fib, fib6, generation),
     }
 }
 
-/// A fork of main's graph for each worker, under one generation. Their trie is made once, in the memory of a fork that no worker has
-/// any more where there is one, and shared.
+/// A fork of main's graph for each worker, under one generation. Their trie and spans are made once, in the memory of a fork that no
+/// worker has any more where there is one, and shared.
 ///
 /// # Errors
 ///
@@ -39,9 +41,7 @@ pub fn forks_of(
     ensures count { IfOk result (λ forks. length forks.items ≡ workers) }
     ensures each { IfOk result (λ forks. AllByRecursion (λ f. f ≡ record { graph = master.now; generation = generation }) forks.items) }
 {
-    let Ok(mut forks) = Vec::with_capacity(alloc, workers) else {
-        return Err(Memory);
-    };
+    let mut forks = Vec::with_capacity(alloc, workers)?;
     let last = fork_of(alloc, master, generation, spare)?;
     for _other in 1..workers {
         forks.push_reserved(last.shared(alloc)?);

@@ -135,9 +135,7 @@ impl<'a> Desk<'a> {
 pub fn posts_of(alloc: Global, workers: usize) -> Result<Posts, Memory>
     ensures { IfOk result (λ posts. vec_len posts.workers ≡ workers) }
 {
-    let Ok(mut posts) = Vec::with_capacity(alloc, workers) else {
-        return Err(Memory);
-    };
+    let mut posts = Vec::with_capacity(alloc, workers)?;
     for _i in 0..workers {
         posts.push_reserved(CachePadded::new(Post::new()));
     }

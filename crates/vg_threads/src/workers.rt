@@ -57,18 +57,10 @@ pub fn run_workers<
         (map (tie_of input.entry.now.plan.now input.entry.now.capture.now input.entry.now.options.now (barrier_id barrier.entry.now)) workers.items) run.1.items) }
 {
     let count = workers.len();
-    let Ok(tied) = Vec::with_capacity(alloc, count) else {
-        return Err(Memory);
-    };
-    let Ok(started) = Vec::with_capacity(alloc, count) else {
-        return Err(Memory);
-    };
-    let Ok(joined) = Vec::with_capacity(alloc, count) else {
-        return Err(Memory);
-    };
-    let Ok(room) = Vec::with_capacity(alloc, count) else {
-        return Err(Memory);
-    };
+    let tied = Vec::with_capacity(alloc, count)?;
+    let started = Vec::with_capacity(alloc, count)?;
+    let joined = Vec::with_capacity(alloc, count)?;
+    let room = Vec::with_capacity(alloc, count)?;
     let workers = tie_all(workers, tied, input, barrier, pool);
     let Joined { workers, main } = run_team(Team {
         rt,

@@ -1,4 +1,4 @@
--- What a run that is done saved and printed is accepted.
+-- For `what_is_done_is_accepted`: what a run that is done saved and printed is accepted.
 use Rattle.std.proofs.Common.{ℕ, List, refl, inl, inr}
 use Rattle.vg_words.proofs.RangeLemmas.{runs-in_range}
 use Rattle.vg_check.specs.Verdicts.{IsSetting, IsAccepted}

@@ -1,4 +1,4 @@
--- Checks: from what was found to what is due, and what is to be expected.
+-- For `check_due` and `vgd_run`: from what a check found to what is due, and what is to be expected.
 use Rattle.std.proofs.Common.{◌≡◌, ◌≢◌, ℕ, ◌+◌, List, [], ◌∷◌, ◌++◌, refl, sym, ap, subst, ◌∙◌, inl, inr, arith}
 use Rattle.std.specs.Prelude.{Some, None, Result, Ok, Err, IfOk, codes}
 use Rattle.std.proofs.lemmas.Option.{same_Some}

@@ -1,4 +1,4 @@
--- What a run of a load comes to.
+-- For `run_load` and `run_both`: what a run of a load comes to.
 use Rattle.std.proofs.Common.{◌≡◌, ◌∙◌, ℕ, zero, suc, ◌≤◌, false, length, refl, ap, arith}
 use Rattle.std.proofs.lemmas.List.{length-map}
 use Rattle.vg_model.specs.Visit.{ip4_visit}

@@ -1,4 +1,4 @@
--- What is due is what is to be expected.
+-- For `vgd_run`: what is due is what is to be expected.
 use Rattle.std.proofs.Common.{◌≡◌, ℕ, ◌≤◌, List, refl, sym, ap, subst, ◌∙◌, inl, inr, arith}
 use Rattle.std.specs.Prelude.{Option, Some, None, Result, Ok, Err, IfSome, IsSome}
 use Rattle.std.proofs.lemmas.Bool.{false≢true}

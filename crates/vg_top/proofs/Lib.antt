@@ -2,7 +2,6 @@ pub mod CheckLemmas
 pub mod CountedLoadLemmas
 pub mod ExpectedLemmas
 pub mod FileLemmas
-pub mod LoadScriptLemmas
 pub mod LosslessLemmas
 pub mod OutputLemmas
 pub mod RunLemmas

@@ -1,4 +1,4 @@
--- Runs whose queues refuse no frame.
+-- For `lossless_links` and `forward`: runs whose queues refuse no frame.
 use Rattle.std.proofs.Common.{◌≡◌, ℕ, List, [], ◌∷◌, length, map, refl, sym, ap, subst, ◌∙◌, arith, append-nil}
 use Rattle.std.specs.Prelude.{None}
 use Rattle.std.specs.List.{AllByRecursion}

@@ -1,12 +1,10 @@
--- From what came of a run to its report, its savefile and its end.
+-- For `forward`: from what came of a run to its report, its savefile and its end.
 use Rattle.std.proofs.Common.{◌≡◌, ℕ, zero, suc, ◌-◌, ◌<◌, ◌≤◌, ◌+◌, ◌^◌, Bool, List, [], ◌∷◌, length, map, take, sym, ap, subst, ◌∙◌, arith}
 use Rattle.std.specs.Prelude.{Some, flat_map, slice_get}
 use Rattle.std.specs.List.{AllByRecursion, enumerate_from}
 use Rattle.std.proofs.lemmas.List.{length-map}
 use Rattle.std.proofs.lemmas.Option.{none-some, same_Some}
-use Rattle.vg_model.specs.declared.routes.Prefix.{Prefix}
-use Rattle.vg_model.specs.declared.routes.RouteTo.{RouteTo}
-use Rattle.vg_model.specs.Graph.{Graph, Node}
+use Rattle.vg_model.specs.Graph.{Graph, Node, with_routes}
 use Rattle.vg_model.specs.Name.{IsName}
 use Rattle.vg_model.specs.Visit.{ip4_visit}
 use Rattle.vg_model.specs.Journey.{Journey, fates, end_of}
@@ -21,7 +19,6 @@ use Rattle.vg_report.specs.declared.reports.Report.{Report}
 use Rattle.vg_report.specs.Lawful.{IsLawful}
 use Rattle.vg_report.specs.Text.{text}
 use Rattle.vg_plan.specs.Plan.{Planned, IsPlan, IsGeneration, first_generation}
-use Rattle.vg_plan.specs.Routed.{with_routes}
 use Rattle.vg_pool.specs.Settlement.{Settlement}
 use Rattle.vg_barrier.specs.Seats.{main_view}
 use Rattle.vg_journeys.specs.Ends.{IsEndIn}
@@ -70,11 +67,11 @@ report_with setting generations g js = record {
 }
 
 -- the report of what came of a run, part by part
-reported_with : (options : Options) (generations : ℕ) (outcome : Outcome) (routes : List (Prefix × RouteTo)) (js : List Journey)
+reported_with : (options : Options) (generations : ℕ) (outcome : Outcome) (last : Graph) (js : List Journey)
     → outcome.settled.len ≡ options.buffers → outcome.fates ≡ fates js → AreCounts js outcome.counts → outcome.trace ≡ map trace (take options.trace js)
-    → reported options generations outcome ≡ report_with (setting_in options) generations (with_routes outcome.last routes) js
-reported_with options generations outcome routes js buffers are_fates counts are_traces =
-    let g : Graph = with_routes outcome.last routes in
+    → reported options generations outcome ≡ report_with (setting_in options) generations (with_routes outcome.last last.routes last.routes6) js
+reported_with options generations outcome last js buffers are_fates counts are_traces =
+    let g : Graph = with_routes outcome.last last.routes last.routes6 in
     let interfaces = counted_are (λ interface. interface.name) (λ n. interface_count n js) g.interfaces outcome.counts.sends counts.sends in
     let nodes = counted_are (λ (node : Node). node.name) (λ n. node_count n js) g.nodes outcome.counts.visits counts.visits in
     let errors = errors_are js g.nodes outcome.counts.drops counts.drops in
@@ -104,13 +101,13 @@ alike_by (g ∷ h ∷ graphs) first setting capture report tx sound output one o
 module _ (plan : Planned) (options : Options) (capture : Capture) (outcome : Outcome) (lossless : Bool)
     (is : IsOutcome ip4_visit lossless plan.graphs (first_generation plan.script capture) capture options outcome) where
   -- the last graph is that of the outcome, with its routes
-  whole : with_routes outcome.last is.last.routes ≡ last_graph plan.graphs
+  whole : with_routes outcome.last is.last.routes is.last.routes6 ≡ last_graph plan.graphs
   whole = is.last_is ∙ sym (last_is plan.graphs is.last is.is_last.is)
 
   -- the report is that of the journeys
   pub reported_is : reported options (length plan.graphs) outcome ≡ report_of (setting_in options) plan.graphs is.js
   reported_is =
-      reported_with options (length plan.graphs) outcome is.last.routes is.js (ap (λ (s : Settlement). s.len) is.settled) is.are_fates is.counts is.traces
+      reported_with options (length plan.graphs) outcome is.last is.js (ap (λ (s : Settlement). s.len) is.settled) is.are_fates is.counts is.traces
       ∙ ap (λ g. report_with (setting_in options) (length plan.graphs) g is.js) whole
 
   -- the report, the savefile and the end are the run's
@@ -182,7 +179,7 @@ module _ (plan : Planned) (options : Options) (capture : Capture) (outcome : Out
   -- each node of a trace is one of the last graph's
   pub traced_within : AllByRecursion (AllByRecursion (λ node. node < length outcome.last.nodes)) outcome.trace
   traced_within =
-      let by_graph : AllByRecursion (λ (j : Journey). AllByRecursion (λ node. node < length (with_routes outcome.last is.last.routes).nodes) (trace j)) is.js =
+      let by_graph : AllByRecursion (λ (j : Journey). AllByRecursion (λ node. node < length (with_routes outcome.last is.last.routes is.last.routes6).nodes) (trace j)) is.js =
       subst (λ (g : Graph). AllByRecursion (λ (j : Journey). AllByRecursion (λ node. node < length g.nodes) (trace j)) is.js) (sym is.last_is) is.visits in
       subst (AllByRecursion (AllByRecursion (λ node. node < length outcome.last.nodes))) (sym is.traces)
       (taken_traces (AllByRecursion (λ node. node < length outcome.last.nodes)) options.trace is.js by_graph)

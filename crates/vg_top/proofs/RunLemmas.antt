@@ -1,4 +1,4 @@
--- From what a run found to what is due.
+-- For `run` and `check_due`: from what a run found to what is due.
 use Rattle.std.proofs.Common.{◌≡◌, ℕ, ◌+◌, ◌<◌, ◌⊎◌, List, [], length, take, refl, sym, ap, ◌∙◌, inl, inr, arith}
 use Rattle.std.specs.Prelude.{Option, Some, None, IfSome, IsSomeAnd, Result, Ok, Err, IfOk, if◌then◌else◌}
 use Rattle.std.specs.Borrow.{Bor}

@@ -1,4 +1,4 @@
--- What a run that words ask for is like.
+-- For `run` and `vgd_run`: what a run that words ask for is like.
 use Rattle.std.proofs.Common.{◌≡◌, ◌∙◌, ℕ, List, ap, sym}
 use Rattle.std.specs.Prelude.{Option, Some, None, option_and_then}
 use Rattle.std.proofs.lemmas.Option.{none-some, same_Some}

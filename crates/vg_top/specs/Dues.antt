@@ -7,7 +7,7 @@ use Rattle.vg_report.specs.Lawful.{IsLawful}
 use Rattle.vg_report.specs.Text.{text}
 use Rattle.vg_plan.specs.Plan.{Planned, first_generation}
 use Rattle.vg_dispatch.specs.declared.options.Options.{Options}
-use Rattle.vg_check.specs.Output.{Setting, IsOutput}
+use Rattle.vg_check.specs.Output.{Setting, IsOutput, frames_of}
 use Rattle.vg_check.specs.OneWorker.{alone, HasOwnEnds}
 use Rattle.vg_files.specs.declared.refusals.Refusal.{Refusal}
 use Rattle.vg_files.specs.declared.refusals.Stop.{Stop}
@@ -36,7 +36,7 @@ pub record AreResultsOf (plan : Planned) (options : Options) (hold : Bool) (capt
   pub lawful : IsLawful report
   pub is_text : results.report ≡ text report
   pub output : IsOutput ip4_visit plan.graphs (first_generation plan.script capture) (setting_in options) capture report results.tx
-  pub end : HasEnded options.workers options.buffers plan.graphs output.js results.end
+  pub end : HasEnded options.workers options.buffers plan.graphs (frames_of capture) output.js results.end
   pub alike : length plan.graphs ≡ 1 → HasOwnEnds report
       → (other : Report) × IsOutput ip4_visit plan.graphs (first_generation plan.script capture) (alone (setting_in options)) capture other results.tx
   pub lossless : hold ≡ true → IsLossless ip4_visit plan.graphs (first_generation plan.script capture) (setting_in options) capture report results.tx

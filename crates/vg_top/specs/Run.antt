@@ -21,7 +21,7 @@ use Rattle.vg_plan.specs.Plan.{Planned, first_generation}
 use Rattle.vg_words.specs.Command.{Run, Check, texts}
 use Rattle.vg_turns.specs.declared.steps.Step.{Step}
 use Rattle.vg_turns.specs.Turns.{turns as turns_in}
-use Rattle.vg_check.specs.Output.{IsOutput}
+use Rattle.vg_check.specs.Output.{IsOutput, frames_of}
 use Rattle.vg_check.specs.OneWorker.{alone, HasOwnEnds}
 use Rattle.vg_check.specs.declared.verdicts.Verdict.{Verdict}
 use Rattle.vg_check.specs.Verdicts.{IsVerdict, IsAccepted}
@@ -81,7 +81,7 @@ pub record IsDone (call : Call) (line : List ℕ) : Type 0 where
 
 -- and this is the end of the run whose report was printed
 abbrev pub IsEndOf : {call : Call} {line : List ℕ} → IsDone call line → RunEnd → Type 0
-IsEndOf done end = HasEnded done.run.workers done.run.buffers done.graphs done.output.js end
+IsEndOf done end = HasEnded done.run.workers done.run.buffers done.graphs (frames_of done.capture) done.output.js end
 
 -- a load is done: this is the text that tells of it, and the folder's files are as before
 pub record IsLoadDone (call : Call) (line : List ℕ) : Type 0 where

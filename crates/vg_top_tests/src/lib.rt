@@ -9,9 +9,15 @@ mod checks;
 #[cfg(test)]
 mod holds;
 #[cfg(test)]
+mod lengths;
+#[cfg(test)]
 mod loads;
 #[cfg(test)]
 mod memory_runs;
+#[cfg(test)]
+mod neighbors;
+#[cfg(test)]
+mod other_kinds;
 #[cfg(test)]
 mod refusals;
 #[cfg(test)]

@@ -103,7 +103,7 @@ fn the_first_fault_is_told(rt: HostRuntime) -> Result<(), Fail> {
 
 #[test]
 fn faulty_scripts_are_refused(rt: HostRuntime) -> Result<(), Fail> {
-    let faulty: [(&[u8], &str); 19] = [
+    let faulty: [(&[u8], &str); 33] = [
         (b"at 5", "script 1 block\n"),
         (
             b"process p every 1 count 999\nend\nat 1",
@@ -135,6 +135,32 @@ fn faulty_scripts_are_refused(rt: HostRuntime) -> Result<(), Fail> {
         (b"unroute 10.0.0.0/8", "script 1 no-route\n"),
         (b"node a kind error-drop", "script 1 kind\n"),
         (b"interface pg0 mac 02:fe mtu 100 up", "script 1 mac\n"),
+        (b"route 10.0.0.0/8 via a,,b", "script 1 name\n"),
+        (b"route 10.0.0.0/8 via a,b,", "script 1 name\n"),
+        (
+            b"route 10.0.0.0/8 via a,b,c,d,e,f,g,h,i,j,k,l,m,n,o,p,q",
+            "script 1 name\n",
+        ),
+        (b"route 10.0.0.0/8 via a, b", "script 1 name\n"),
+        (
+            b"adjacency a interface pg0 dst 02:00:00:00:00:01\nroute 10.0.0.0/8 via a,b",
+            "script 2 unknown-adjacency\n",
+        ),
+        (b"route6 2001:db8::1/32 drop", "script 1 prefix\n"),
+        (b"route6 10.0.0.0/8 drop", "script 1 prefix\n"),
+        (b"route 2001:db8::/32 drop", "script 1 prefix\n"),
+        (b"route6 2001:db8::/32 via a,,b", "script 1 name\n"),
+        (
+            b"adjacency a interface pg0 dst 02:00:00:00:00:01\nroute6 2001:db8::/32 via a,a,b",
+            "script 2 unknown-adjacency\n",
+        ),
+        (
+            b"route 0.0.0.0/0 drop\nunroute6 ::/0",
+            "script 2 no-route\n",
+        ),
+        (b"node x kind dot1q-push-0", "script 1 kind\n"),
+        (b"node x kind dot1q-match-4095", "script 1 kind\n"),
+        (b"node x kind xconnect-16", "script 1 kind\n"),
     ];
     for (script, line) in faulty {
         assert_refused(&rt, &RUN, &HEADER, script, 5, line)?;
@@ -142,13 +168,14 @@ fn faulty_scripts_are_refused(rt: HostRuntime) -> Result<(), Fail> {
     Ok(())
 }
 
-/// So many lines, which differ in a number of two parts.
-fn lines(alloc: Global, count: u32, before: &str, after: &str) -> Result<String, AllocError> {
+/// So many lines, which differ in a number of two parts, by what stands before it, between its parts and behind it.
+fn lines(alloc: Global, count: u32, around: [&str; 3]) -> Result<String, AllocError> {
+    let [before, between, after] = around;
     let mut text = String::new(alloc);
     for number in 0..count {
         let high = number / 256;
         let low = number % 256;
-        let line = format!(in alloc; "{before}{high}.{low}{after}\n")?;
+        let line = format!(in alloc; "{before}{high}{between}{low}{after}\n")?;
         text.push_str(line.as_str())?;
     }
     Ok(text)
@@ -158,23 +185,30 @@ fn lines(alloc: Global, count: u32, before: &str, after: &str) -> Result<String,
 fn one_more_than_may_be_is_refused(rt: HostRuntime) -> Result<(), Fail> {
     let alloc = rt.alloc();
     let too_many = [
-        (56, "node n", " kind pass", "script 56 too-many\n"),
+        (56, ["node n", ".", " kind pass"], "script 56 too-many\n"),
         (
             16,
-            "interface i",
-            " mac 02:fe:00:00:00:01 mtu 1500 up",
+            ["interface i", ".", " mac 02:fe:00:00:00:01 mtu 1500 up"],
             "script 16 too-many\n",
         ),
         (
             257,
-            "adjacency a",
-            " interface pg0 dst 02:00:00:00:00:01",
+            ["adjacency a", ".", " interface pg0 dst 02:00:00:00:00:01"],
             "script 257 too-many\n",
         ),
-        (4097, "route 10.", ".0/24 drop", "script 4097 too-many\n"),
+        (
+            4097,
+            ["route 10.", ".", ".0/24 drop"],
+            "script 4097 too-many\n",
+        ),
+        (
+            4097,
+            ["route6 2001:db8:", ":", "::/64 drop"],
+            "script 4097 too-many\n",
+        ),
     ];
-    for (count, before, after, line) in too_many {
-        let script = lines(alloc, count, before, after)?;
+    for (count, around, line) in too_many {
+        let script = lines(alloc, count, around)?;
         assert_refused(&rt, &RUN, &HEADER, script.as_str().as_bytes(), 5, line)?;
     }
     let script = vec![in alloc; b'#'; 262_145]?;

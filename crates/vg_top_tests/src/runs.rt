@@ -78,7 +78,7 @@ fn a_frame_shorter_than_its_header_is_dropped(rt: HostRuntime) -> Result<(), Fai
 }
 
 #[test]
-fn a_frame_of_more_than_2048_bytes_is_dropped(rt: HostRuntime) -> Result<(), Fail> {
+fn a_frame_of_more_than_9216_bytes_is_dropped(rt: HostRuntime) -> Result<(), Fail> {
     let report = "vgd report 1\nworkers 1\nbuffers 4096\ngenerations 1\npackets 2\n\
         interface 0 pg0 tx 1\nnode 0 pg-input 2\nnode 1 handoff-dequeue 0\nnode 2 ethernet-input 1\n\
         node 3 ip4-input 0\nnode 4 ip4-lookup 0\nnode 5 ip4-rewrite 0\nnode 6 interface-output 0\n\
@@ -87,8 +87,8 @@ fn a_frame_of_more_than_2048_bytes_is_dropped(rt: HostRuntime) -> Result<(), Fai
     assert_done(
         &rt,
         WIRE,
-        &[(FRAME.0, 2048), (FRAME.0, 2049)],
-        &[(FRAME.0, 2048)],
+        &[(FRAME.0, 9216), (FRAME.0, 9217)],
+        &[(FRAME.0, 9216)],
         report,
     )
 }

@@ -10,7 +10,8 @@ use std::thread::Threads;
 use vg_model::{DropError, start};
 use vg_report::{Report, read_report};
 
-/// A graph with nodes that pass packets on, handoff nodes, interfaces that are small and down, and routes of every kind.
+/// A graph with nodes that pass packets on, handoff nodes, interfaces that are small and down, and routes of every kind, over one neighbor
+/// and over several.
 const SCRIPT: &[u8] = b"interface lan mac 02:fe:00:00:00:01 mtu 68 up\n\
     interface off mac 02:fe:00:00:00:02 mtu 1500 down\n\
     adjacency a interface pg0 dst 02:00:00:00:00:0a\n\
@@ -26,11 +27,12 @@ const SCRIPT: &[u8] = b"interface lan mac 02:fe:00:00:00:01 mtu 68 up\n\
     arc pg-input out first\n\
     arc last out ip4-rewrite\n\
     arc ip4-lookup rewrite last\n\
-    route 10.0.0.0/8 via a\n\
+    route 10.0.0.0/8 via a,b,a\n\
     route 10.128.0.0/9 via b\n\
     route 10.64.0.0/10 drop\n\
     route 10.192.0.0/12 local\n\
     route 10.16.0.0/12 via c\n\
+    route 10.32.0.0/11 via a,b\n\
     route 10.1.2.0/24 via b\n";
 
 /// The number of the node at which packets arrive that other workers hand over.
@@ -44,7 +46,7 @@ fn next(state: u64) -> u64 {
 }
 
 /// The checksum field of a header of 20 bytes whose sum of all other words, not folded, is this.
-fn checksum(sum: u32) -> [u8; 2] {
+pub(crate) fn checksum(sum: u32) -> [u8; 2] {
     let once = (sum & 0xffff) + (sum >> 16);
     let twice = (once & 0xffff) + (once >> 16);
     (!((twice & 0xffff) as u16)).to_be_bytes()
@@ -85,7 +87,7 @@ fn add(alloc: Global, file: &mut Vec<u8>, random: u64) -> Result<(), AllocError>
     let len = match fault {
         16 => 13,
         17 => 33,
-        18 => 2049,
+        18 => 9217,
         _ => 14 + u32::from(total),
     };
     bytes.resize(len as usize, 0)?;

@@ -20,7 +20,7 @@ use vg_barrier::{
 use vg_capture::{Capture, Captured, Packets};
 use vg_dispatch::{Stop, WorkerParcel};
 use vg_fork::Fork;
-use vg_model::{Bytes, Edits, Memory, RouteTo};
+use vg_model::{Bytes, Edits, Members, Memory, RouteTo};
 use vg_plan::laws::events_are_made;
 use vg_plan::{Book, Master, Plan};
 use vg_script::{Block, Script, ScriptError, parse_script};
@@ -55,7 +55,13 @@ fn fork_of(alloc: Global, master: &Master, generation: u32) -> Result<Fork, Memo
     ensures generation { IfOk result (λ fork. fork.generation ≡ generation) }
     ensures valid { IfOk result (λ fork. IsValid fork.graph) }
 {
-    Fork::of(alloc, master.graph(), master.fib(), generation)
+    Fork::of(
+        alloc,
+        master.graph(),
+        master.fib(),
+        master.fib6(),
+        generation,
+    )
 }
 
 // A capture of empty packets at these times in microseconds.
@@ -177,7 +183,10 @@ fn assert_renewed(rt: &impl Abort, worker: Running<WorkerParcel>, mark: u64) {
     assert_eq!(rt; parcel.next, mark);
     assert_eq!(rt; parcel.stop, Stop::No);
     assert_eq!(rt; parcel.fork.find(0x0b01_0203), Some(RouteTo::Drop));
-    assert_eq!(rt; parcel.fork.find(0x0a01_0203), Some(RouteTo::Via(0)));
+    assert_eq!(rt;
+        parcel.fork.find(0x0a01_0203),
+        Some(RouteTo::Via(Members::one(0)))
+    );
 }
 
 // The words of a barrier after one release.

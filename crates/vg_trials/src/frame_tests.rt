@@ -233,7 +233,7 @@ fn one_worker_hands_packets_to_itself(rt: HostRuntime) -> Result<(), Fail> {
     let alloc = rt.alloc();
     let plain = header(20, 64, 0xacd4, [10, 1, 2, 3]);
     let mut packets = Vec::new(alloc);
-    for len in [13, 14, 2048, 2049] {
+    for len in [13, 14, 9216, 9217] {
         add(&mut packets, alloc, PG0, &plain, len)?;
     }
     assert!(rt; packets.len() == 4);

@@ -22,15 +22,18 @@ use Rattle.vg_counters.specs.Tally.{Tally, more_at}
 use Rattle.vg_nodes.specs.declared.sorted.Sorted.{Sorted}
 use Rattle.vg_nodes.specs.Dispatch.{IsSortedBy, IsVisitedBy}
 use Rattle.vg_frame.specs.Placed.{count}
+use Rattle.vg_journeys.specs.Chains.{count_some}
+use Rattle.vg_model.specs.declared.fates.Fate.{Fate}
 use Rattle.vg_underway.specs.declared.underway.Work.{Work}
 use Rattle.vg_journeys.specs.Ended.{Ended, drop_visits}
 use Rattle.vg_journeys.specs.Accounts.{HandoffFrame}
-use Rattle.vg_journeys.specs.Turns.{Settled}
+use Rattle.vg_journeys.specs.Turns.{Settled, settled_pieces}
 use Rattle.vg_underway.specs.Underway.{Setting, IsSetting, moved, move_owed, contents_at, waiting, in_hand, counts_from}
 use Rattle.vg_underway.specs.Hands.{PutsAway, IsDispatched}
 use Rattle.vg_underway.proofs.DeliverLemmas.{delivers_then, delivers_nothing}
 use Rattle.vg_underway.specs.Traced.{Sight, IsTraced, with_refusals, noted_frame}
-use Rattle.vg_underway.specs.Works.{total, IsHeld, IsSteady, Advances, Exchanges, TakesAll, IsPutAway, EndsHere, hand_of, visits_in_all, visits_left, ends_of, refused_visits, logged_count, CanFinish, CanCount, Finishes, outcome_of, ended_with, settled_with, sent_len, by_bytes, by_visits, by_all_visits}
+use Rattle.vg_underway.specs.Works.{total, IsHeld, IsSteady, Advances, Exchanges, TakesAll, IsPutAway, EndsHere, hand_of, visits_in_all, visits_left, ends_of, refused_visits, logged_count, by_pieces}
+use Rattle.vg_underway.specs.Works.{CanFinish, CanCount, Finishes, outcome_of, ended_with, settled_with, sent_len, by_bytes, by_visits, by_all_visits}
 use Rattle.vg_underway.proofs.SumLemmas.{sum_by_none, counts_from_at}
 use Rattle.vg_underway.proofs.OwedLemmas.{target_within, drop_within}
 use Rattle.vg_underway.proofs.WorkLemmas.{live_in_hand, total_of, advances_none, advances_then, all_append, exchanges_none, exchanges_then, takes_kept}
@@ -52,7 +55,7 @@ pub hand_last : {A B : Type 0} (step : A → B) (xs items : List A) (i : ℕ) (o
 hand_last step xs items i others same past = ap (λ ys. map step ys ++ others) (drop_all i xs (subst (λ ys. length ys ≤ i) same past))
 
 -- nothing is put away yet
-pub away_none : (s : Setting) (node : ℕ) (w : Work) (cache : CacheBook) (hand : List (ℕ × Step)) → IsSteady s node w hand → TakesAll w cache → IsPutAway s node w cache hand w cache hand
+pub away_none : (s : Setting) (node : ℕ) (w : Work) (cache : CacheBook) (hand : List (ℕ × Step)) → IsSteady s node w hand → TakesAll s node w hand cache → IsPutAway s node w cache hand w cache hand
 away_none s node w cache hand steady takes = record {
   steady = steady;
   takes = takes;
@@ -73,7 +76,7 @@ away_put s node old old_cache old_hand w cache p rest slot to pending ok goes le
     let step = put_steady s node w p rest to ok away.steady target (goes ∙ ap Onward leads) in
     subst (λ q. IsPutAway s node old old_cache old_hand (record w { pending = q }) cache rest) (sym is) (record {
       steady = step.0;
-      takes = record { len = away.takes.len; freed = away.takes.freed };
+      takes = takes_kept s node [] w (with_waiting to p.0 w) (p ∷ rest) rest cache cache away.takes step.1 (exchanges_none cache);
       settled = away.settled ++ [];
       advances = advances_then s node [] [] away.settled [] old w (with_waiting to p.0 w) old_hand (p ∷ rest) rest away.advances step.1;
       exchanges = exchanges_then [] [] away.settled [] old_cache cache cache away.exchanges (exchanges_none cache);
@@ -135,22 +138,29 @@ can_finish s node old old_cache old_hand w cache p rest end ok within over away 
           omega (arith, room, owes, cons));
       within = away.steady.held.within;
       counts = can_count s node w p rest end ok away.steady within;
-      len = (let room = away.takes.len in omega (arith, some, room));
-      freed = (let room = away.takes.freed in omega (arith, some, room));
+      len =
+          (let room = away.takes.len in
+          let owes : move_owed s by_pieces c (moved s node c p.1) ≡ sum_by (λ n. 0) (drop_visits (outcome_of end)) + c.pieces = ap (move_owed s by_pieces c) over in
+          let cons : in_hand s by_pieces node w.memory (p ∷ rest) ≡ move_owed s by_pieces c (moved s node c p.1) + in_hand s by_pieces node w.memory rest =
+          sum_by-cons (λ (q : ℕ × Step). move_owed s by_pieces (contents_at w.memory q.0) (moved s node (contents_at w.memory q.0) q.1)) p rest in
+          omega (arith, room, owes, cons));
+      freed = (let room = away.takes.freed in omega (arith, room));
     }
 
 -- a packet whose leg is over is taken out
 pub away_finish : (s : Setting) (node : ℕ) (old : Work) (old_cache : CacheBook) (old_hand : List (ℕ × Step)) (w : Work) (cache : CacheBook) (p : ℕ × Step) (rest : List (ℕ × Step)) (end : End) (new : Work) (new_cache : CacheBook)
-    → IsSetting s → IsEndIn s end → moved s node (contents_at w.memory p.0) p.1 ≡ Over (outcome_of end) → Finishes p.0 end w new → new_cache ≡ record cache { len = cache.len + 1; freed = cache.freed + 1 }
+    → IsSetting s → IsEndIn s end → moved s node (contents_at w.memory p.0) p.1 ≡ Over (outcome_of end) → Finishes p.0 end w new
+    → new_cache ≡ record cache { len = cache.len + (contents_at w.memory p.0).pieces; freed = cache.freed + (contents_at w.memory p.0).pieces }
     → IsPutAway s node old old_cache old_hand w cache (p ∷ rest) → IsPutAway s node old old_cache old_hand new new_cache rest
 away_finish s node old old_cache old_hand w cache p rest end new new_cache ok within over f is away =
     let can = can_count s node w p rest end ok away.steady within in
     let step = finish_steady s node w new p rest end away.steady can f over in
-    let less = f.count_is in
     let c : Contents = contents_at w.memory p.0 in
-    let one : logged_count (settled_with end c ∷ []) ≡ 1 = ap (λ o. length (cons_option o [])) (settled_logged end c) in
-    let len : new_cache.len ≡ cache.len + 1 = ap (λ x. x.len) is in
-    let freed : new_cache.freed ≡ cache.freed + 1 = ap (λ x. x.freed) is in
+    let here = ap (count_some (λ (x : Fate). c.pieces)) (settled_logged end c) in
+    let cons = sum_by-cons settled_pieces (settled_with end c) [] in
+    let one : sum_by settled_pieces (settled_with end c ∷ []) ≡ c.pieces = omega (arith, here, cons) in
+    let len : new_cache.len ≡ cache.len + c.pieces = ap (λ x. x.len) is in
+    let freed : new_cache.freed ≡ cache.freed + c.pieces = ap (λ x. x.freed) is in
     let exchange : Exchanges [] (settled_with end c ∷ []) cache new_cache = record {
       len = omega (arith, one, len);
       freed = omega (arith, one, freed);
@@ -160,7 +170,7 @@ away_finish s node old old_cache old_hand w cache p rest end new new_cache ok wi
     } in
     record {
       steady = step.0;
-      takes = takes_kept (settled_with end c ∷ []) w new cache new_cache away.takes (omega (arith, less)) exchange;
+      takes = takes_kept s node (settled_with end c ∷ []) w new (p ∷ rest) rest cache new_cache away.takes step.1 exchange;
       settled = away.settled ++ settled_with end c ∷ [];
       advances = advances_then s node [] [] away.settled (settled_with end c ∷ []) old w new old_hand (p ∷ rest) rest away.advances step.1;
       exchanges = exchanges_then [] [] away.settled (settled_with end c ∷ []) old_cache cache new_cache away.exchanges exchange;
@@ -226,7 +236,7 @@ pub put_away : {told : List Settled → Type 0} (s : Setting) (node slots : ℕ)
     → PutsAway s node slots lossless told mid cache put hand new new_cache new_put [] → IsDispatched s slots lossless told w cache put new new_cache new_put
 put_away s node slots lossless w mid cache put hand new new_cache new_put first away = record {
   steady = steady_at s node 0 new away.steady;
-  takes = away.takes;
+  takes = record { len = away.takes.len; freed = away.takes.freed };
   settled = away.settled;
   advances = advances_at s node 0 [] away.settled w new (advances_then s node [] [] [] away.settled w mid new [] hand [] first.advances away.advances);
   exchanges = away.exchanges;
@@ -248,7 +258,7 @@ away_then s node a b c xa xb xc ha hb hc one two = record {
 }
 
 -- none yet
-pub dispatched_none : {told : List Settled → Type 0} (s : Setting) (slots : ℕ) (lossless : Bool) (w : Work) (cache : CacheBook) (put : List (List HandoffFrame)) → IsSteady s 0 w [] → TakesAll w cache → told [] → IsDispatched s slots lossless told w cache put w cache put
+pub dispatched_none : {told : List Settled → Type 0} (s : Setting) (slots : ℕ) (lossless : Bool) (w : Work) (cache : CacheBook) (put : List (List HandoffFrame)) → IsSteady s 0 w [] → TakesAll s 0 w [] cache → told [] → IsDispatched s slots lossless told w cache put w cache put
 dispatched_none s slots lossless w cache put steady takes tells = record {
   steady = steady;
   takes = takes;

@@ -1,5 +1,5 @@
 -- Packets are drawn one by one.
-use Rattle.std.proofs.Common.{◌≡◌, ℕ, suc, ◌+◌, ◌*◌, ◌<◌, ◌≤◌, ◌&&◌, Bool, true, false, cond, List, [], ◌∷◌, ◌++◌, length, set, length-append, refl, sym, ap, subst, ◌∙◌, inl, inr, arith, zero-add}
+use Rattle.std.proofs.Common.{◌≡◌, ℕ, suc, ◌+◌, ◌*◌, ◌<◌, ◌≤◌, ◌&&◌, Bool, true, false, cond, List, [], ◌∷◌, ◌++◌, length, set, length-append, refl, sym, ap, subst, ◌∙◌, inl, inr, arith, zero-add, ◌^◌}
 use Rattle.std.specs.Prelude.{Option, None, flat_map, is_some, unwrap_or, ◌==◌, slice_index, vec_len, vec_capacity}
 use Rattle.std.specs.List.{sum_by, AllByRecursion}
 use Rattle.std.proofs.lemmas.Grind.{flat_map-append}
@@ -21,7 +21,7 @@ use Rattle.vg_model.specs.Journey.{longest_packet}
 use Rattle.vg_model.specs.Count.{is_sent_on}
 use Rattle.vg_model.specs.PoolBook.{CacheBook}
 use Rattle.vg_model.proofs.LegEnds.{arc_target}
-use Rattle.vg_pool.specs.Contents.{Contents, AreContents, nothing}
+use Rattle.vg_pool.specs.Contents.{Contents, AreContents}
 use Rattle.vg_frame.specs.Pending.{pending_at, pending_count}
 use Rattle.vg_frame.specs.Placed.{buffer_at, count}
 use Rattle.vg_frame.proofs.PendingLemmas.{pending_count-put}
@@ -29,21 +29,23 @@ use Rattle.vg_counters.specs.Tally.{Tally, IsWhole, drops_at}
 use Rattle.vg_underway.specs.declared.underway.Work.{Work}
 use Rattle.vg_model.specs.declared.fates.Fate.{Fate}
 use Rattle.vg_journeys.specs.Ended.{Ended, ended_by, drop_visits}
-use Rattle.vg_journeys.specs.Trips.{Arrival, Drawn, Taken, legs_before, last_generation}
-use Rattle.vg_journeys.specs.Turns.{Settled, settled_noted, IsSoundArrival, ComesFrom}
-use Rattle.vg_journeys.specs.Accounts.{is_drawn}
+use Rattle.vg_journeys.specs.Trips.{Arrival, Drawn, Taken, legs_before, last_generation, pieces_before}
+use Rattle.vg_journeys.specs.Turns.{Settled, settled_noted, IsSoundArrival, ComesFrom, settled_pieces}
+use Rattle.vg_journeys.specs.Accounts.{drawn_pieces}
+use Rattle.vg_model.specs.PoolBook.{pieces_of}
+use Rattle.vg_pool.proofs.BlockLemmas.{pieces_bound, pieces_long}
 use Rattle.vg_underway.specs.SentEntries.{sent_by, AreWithin}
-use Rattle.vg_underway.specs.Underway.{Setting, Weights, IsSetting, owed, contents_at, live_at, waiting, counts_from, arrival_owed, leg_here}
+use Rattle.vg_underway.specs.Underway.{Setting, Weights, IsSetting, owed, contents_at, live_at, waiting, counts_from, arrival_owed, leg_here, nothing}
 use Rattle.vg_underway.specs.Places.{same_one, times_waiting}
-use Rattle.vg_underway.specs.Works.{total, EndsHere, IsHeld, HasRoom, Advances, Exchanges, TakesAll, ends_of, refused_visits, counted_end, outcome_of, by_bytes, by_visits}
-use Rattle.vg_underway.specs.Draws.{CanEnter, CanDraw, DrawsLong, DrawsShort, Enters, IsReady, IsEntered, arrival_len, arrival_bytes, with_visit, with_source}
+use Rattle.vg_underway.specs.Works.{total, EndsHere, IsHeld, HasRoom, Advances, Exchanges, TakesAll, ends_of, refused_visits, counted_end, outcome_of, by_bytes, by_visits, by_pieces, pieces_held}
+use Rattle.vg_underway.specs.Draws.{CanEnter, CanDraw, DrawsLong, DrawsShort, Enters, IsReady, IsEntered, arrival_extent, arrivals_extent, with_visit, with_source}
 use Rattle.vg_underway.proofs.SumLemmas.{sum_from_put, sum_from_none, sum_by_none, same_one_self, same_one_other, counts_from_more, counts_from_none, counts_from_at}
 use Rattle.vg_underway.proofs.OwedLemmas.{target_within}
 use Rattle.vg_underway.proofs.CountLemmas.{more_at_read, counted_nodes, counted_whole, counted_visits_of, counted_drops_at, counted_drops}
-use Rattle.vg_underway.proofs.WorkLemmas.{HasLegs, waiting_kept, total_of, fates_grow, advances_none, advances_then, exchanges_none, exchanges_then, refused_most, refused_none, logged_most, logged_of, all_append}
+use Rattle.vg_underway.proofs.WorkLemmas.{HasLegs, waiting_kept, total_of, fates_grow, advances_none, advances_then, exchanges_none, exchanges_then, refused_most, refused_none, logged_most, logged_of, all_append, settled_pieces_most}
 use Rattle.vg_underway.proofs.TraceLemmas.{not_live, traced_none}
 use Rattle.vg_underway.proofs.EnterTraceLemmas.{traced_next, next_of, among_none, among_long, among_enters, traced_long, traced_enters}
-use Rattle.vg_underway.proofs.KeptLemmas.{node_within, Arrives, arrives_drawn, arrives_owed, long_owed, came_visits_most, came_bytes_most}
+use Rattle.vg_underway.proofs.KeptLemmas.{node_within, Arrives, arrives_drawn, arrives_owed, long_owed, came_visits_most, came_bytes_most, came_pieces_most}
 
 -- where nothing is pending, nothing is owed
 pub nothing_waiting : (s : Setting) (t : Weights) (memory : List (Option Contents)) (pending : List (List ℕ)) → ((n : ℕ) → pending_at pending n ≡ []) → waiting s t memory pending ≡ 0
@@ -57,7 +59,15 @@ sum_lengths (q ∷ qs) none =
     omega (arith, here, rest, sum_by-cons length q qs)
 
 nothing_sound : AreContents nothing
-nothing_sound = record { packet = record { bytes = tt; sound = λ e. cc }; fits = omega arith; few_legs = omega arith }
+nothing_sound = record {
+  packet = record { bytes = tt; sound = λ e. cc };
+  some = omega arith;
+  few = omega arith;
+  room = omega arith;
+  len = omega arith;
+  fits = omega arith;
+  few_legs = omega arith;
+}
 
 -- at first none came
 pub entered_none : (s : Setting) (all : List Arrival) (w : Work) (cache : CacheBook) → IsReady all w cache → IsEntered s [] w cache w cache
@@ -98,12 +108,12 @@ visits_so_far s m (e ∷ es) ok sound from =
     let one = came_visits_most s m e ok sound.0 from.0 in
     omega (arith, rest, one, sum_by-cons (arrival_owed s (by_visits m)) e es)
 
-pub bytes_so_far : (s : Setting) (arrivals : List Arrival) → IsSetting s → AllByRecursion IsSoundArrival arrivals → AllByRecursion (ComesFrom s.graph) arrivals → sum_by (arrival_owed s by_bytes) arrivals ≤ arrival_bytes arrivals
+pub bytes_so_far : (s : Setting) (arrivals : List Arrival) → IsSetting s → AllByRecursion IsSoundArrival arrivals → AllByRecursion (ComesFrom s.graph) arrivals → sum_by (arrival_owed s by_bytes) arrivals ≤ arrivals_extent arrivals
 bytes_so_far s [] ok sound from = omega arith
 bytes_so_far s (e ∷ es) ok sound from =
     let rest = bytes_so_far s es ok sound.1 from.1 in
     let one = came_bytes_most s e ok sound.0 from.0 in
-    omega (arith, rest, one, sum_by-cons (arrival_owed s by_bytes) e es, sum_by-cons arrival_len e es)
+    omega (arith, rest, one, sum_by-cons (arrival_owed s by_bytes) e es, sum_by-cons arrival_extent e es)
 
 pub visits_most : (s : Setting) (m : ℕ) (all arrivals : List Arrival) (old new : Work) (old_cache new_cache : CacheBook) → IsSetting s → IsReady all old old_cache → IsEntered s arrivals old old_cache new new_cache
     → total s (by_visits m) new [] + count new.memory ≤ slice_index old.counts.visits m + 67 * length arrivals
@@ -150,32 +160,70 @@ can_enter s first all arrivals old new old_cache new_cache ok ready entered more
       pending = (let all_of : pending_count new.pending + 0 ≡ count new.memory = entered.held.count_is in omega (arith, all_of, live, empty, more, few));
     }
 
-drawn_most : (arrivals : List Arrival) → sum_by is_drawn arrivals ≤ length arrivals
-drawn_most [] = omega arith
-drawn_most (Drawn number bytes ∷ es) = let rest = drawn_most es in omega (arith, rest, sum_by-cons is_drawn (Drawn number bytes) es)
-drawn_most (Taken worker node c ∷ es) = let rest = drawn_most es in omega (arith, rest, sum_by-cons is_drawn (Taken worker node c) es)
+pub drawn_pieces_most : (arrivals : List Arrival) → sum_by drawn_pieces arrivals ≤ 5 * length arrivals
+drawn_pieces_most [] = omega arith
+drawn_pieces_most (Drawn number bytes ∷ es) =
+    let rest = drawn_pieces_most es in
+    let one = pieces_bound (length bytes) in
+    omega (arith, rest, one, sum_by-cons drawn_pieces (Drawn number bytes) es)
+drawn_pieces_most (Taken worker node c ∷ es) = let rest = drawn_pieces_most es in omega (arith, rest, sum_by-cons drawn_pieces (Taken worker node c) es)
+
+drawn_less : (arrivals : List Arrival) → sum_by drawn_pieces arrivals ≤ sum_by pieces_before arrivals
+drawn_less [] = omega arith
+drawn_less (Drawn number bytes ∷ es) = let rest = drawn_less es in omega (arith, rest, sum_by-cons drawn_pieces (Drawn number bytes) es, sum_by-cons pieces_before (Drawn number bytes) es)
+drawn_less (Taken worker node c ∷ es) = let rest = drawn_less es in omega (arith, rest, sum_by-cons drawn_pieces (Taken worker node c) es, sum_by-cons pieces_before (Taken worker node c) es)
+
+pieces_owed : (s : Setting) (arrivals : List Arrival) → sum_by (arrival_owed s by_pieces) arrivals ≤ sum_by pieces_before arrivals
+pieces_owed s [] = omega arith
+pieces_owed s (e ∷ es) =
+    let rest = pieces_owed s es in
+    let one = came_pieces_most s e in
+    omega (arith, rest, one, sum_by-cons (arrival_owed s by_pieces) e es, sum_by-cons pieces_before e es)
+
+-- what is under way and what came back are together no more than the chains of the packets that came
+pub held_most : (s : Setting) (all arrivals : List Arrival) (settled : List Settled) (old new : Work) (old_cache : CacheBook) → IsReady all old old_cache → Advances s 0 arrivals settled old [] new []
+    → pieces_held s 0 new [] + sum_by settled_pieces settled ≤ sum_by pieces_before arrivals
+held_most s all arrivals settled old new old_cache ready advances =
+    let same = advances.same by_pieces in
+    let t1 = total_of s by_pieces new (ends_of settled) in
+    let t2 = total_of s by_pieces old [] in
+    let c1 = counts_from_none 0 new.counts.visits in
+    let c2 = counts_from_none 0 old.counts.visits in
+    let none = refused_none settled in
+    let idle = nothing_waiting s by_pieces old.memory old.pending ready.none in
+    let most = settled_pieces_most settled in
+    let owed = pieces_owed s arrivals in
+    omega (arith, same, t1, t2, c1, c2, none, idle, most, owed)
 
 -- the cache can take back all buffers that are under way
-pub takes_entered : (s : Setting) (all arrivals rest : List Arrival) (old new : Work) (old_cache new_cache : CacheBook) → IsReady all old old_cache → IsEntered s arrivals old old_cache new new_cache → all ≡ arrivals ++ rest → TakesAll new new_cache
+pub takes_entered : (s : Setting) (all arrivals rest : List Arrival) (old new : Work) (old_cache new_cache : CacheBook) → IsReady all old old_cache → IsEntered s arrivals old old_cache new new_cache → all ≡ arrivals ++ rest
+    → TakesAll s 0 new [] new_cache
 takes_entered s all arrivals rest old new old_cache new_cache ready entered is =
-    let live = entered.advances.live in
-    let empty = ready.no_buffer in
-    let few = ready.few in
     let e = entered.exchanges in
-    let logged = logged_most entered.settled in
-    let size = ap length is in
-    let split = length-append arrivals rest in
-    let drawn = ap (sum_by is_drawn) is in
-    let drawn_split = sum_by-append is_drawn arrivals rest in
-    let drawn_rest = drawn_most rest in
+    let held = held_most s all arrivals entered.settled old new old_cache ready entered.advances in
+    let few = ready.few in
+    let drawn = ap (sum_by drawn_pieces) is ∙ sum_by-append drawn_pieces arrivals rest in
+    let came = ap (sum_by pieces_before) is ∙ sum_by-append pieces_before arrivals rest in
+    let less = drawn_less rest in
+    let most = drawn_pieces_most all in
+    let cached = ready.cached in
     record {
-      len = (let h = ready.cached in let x = e.len in omega (arith, h, x, live, empty, logged, size, split, drawn, drawn_split, drawn_rest));
-      freed = (let h = ready.freed in let x = e.freed in omega (arith, h, x, live, empty, logged, few, size, split));
+      len = (let x = e.len in omega (arith, cached, x, held, drawn, came, less));
+      freed = (let h = ready.freed in let x = e.freed in omega (arith, h, x, held, cached, came, few, most));
     }
 
+-- the cache's count of buffers that it gave out has room for one chain more
+pub allocated_few : (s : Setting) (arrivals : List Arrival) (old new : Work) (old_cache new_cache : CacheBook) → IsReady arrivals old old_cache → IsEntered s arrivals old old_cache new new_cache → new_cache.allocated < 2 ^ 62
+allocated_few s arrivals old new old_cache new_cache ready entered =
+    let few = ready.few in
+    let most = drawn_pieces_most arrivals in
+    let h = ready.allocated in
+    let x = entered.exchanges.allocated in
+    omega (arith, few, most, h, x)
+
 pub can_draw : (s : Setting) (all arrivals rest : List Arrival) (number : ℕ) (bytes : List ℕ) (old new : Work) (old_cache new_cache : CacheBook) → IsSetting s → IsReady all old old_cache → IsEntered s arrivals old old_cache new new_cache
-    → all ≡ arrivals ++ Drawn number bytes ∷ rest → CanDraw new new_cache
-can_draw s all arrivals rest number bytes old new old_cache new_cache ok ready entered is =
+    → all ≡ arrivals ++ Drawn number bytes ∷ rest → (taken : CacheBook) → taken.len + pieces_of (length bytes) ≡ new_cache.len → taken.freed ≡ new_cache.freed → CanDraw (pieces_of (length bytes)) new taken
+can_draw s all arrivals rest number bytes old new old_cache new_cache ok ready entered is taken len same_freed =
     let a = entered.advances in
     let e = entered.exchanges in
     let live = a.live in
@@ -185,15 +233,10 @@ can_draw s all arrivals rest number bytes old new old_cache new_cache ok ready e
     let more = length_next all arrivals rest (Drawn number bytes) is in
     let factor : 67 * length arrivals ≤ 67 * length all = omega (arith, more) in
     let logged = logged_most entered.settled in
-    let drawn = ap (sum_by is_drawn) is in
-    let drawn_split = sum_by-append is_drawn arrivals (Drawn number bytes ∷ rest) in
-    let drawn_next = sum_by-cons is_drawn (Drawn number bytes) rest in
-    let drawn_few = drawn_most all in
     let takes = takes_entered s all arrivals (Drawn number bytes ∷ rest) old new old_cache new_cache ready entered is in
     record {
-      buffers = (let h = ready.buffers in let len = e.len in omega (arith, h, len, drawn, drawn_split, drawn_next), (let h = takes.len in omega (arith, h)));
-      allocated = (let h = ready.allocated in let x = e.allocated in omega (arith, h, x, drawn, drawn_split, drawn_few, few));
-      freed = (let h = takes.freed in omega (arith, h));
+      len = (let h = takes.len in omega (arith, h, len));
+      freed = (let h = takes.freed in omega (arith, h, same_freed));
       fates = (let h = ready.fates in let grow = fates_grow s 0 arrivals entered.settled old new [] [] a in let cap = a.room.0 in omega (arith, h, grow, cap, live, empty, more, logged));
       counts =
           (let most = visits_at_most s error_drop all arrivals old new old_cache new_cache ok ready entered in
@@ -207,8 +250,8 @@ can_draw s all arrivals rest number bytes old new old_cache new_cache ok ready e
     }
 
 -- a packet that is too long
-long_held : (s : Setting) (leg : Leg) (number : ℕ) (w new : Work) (cache new_cache : CacheBook) → IsHeld s 0 w [] → CanDraw w cache → DrawsLong leg number w new cache new_cache → IsHeld s 0 new []
-long_held s leg number w new cache new_cache held can long =
+long_held : (s : Setting) (leg : Leg) (number : ℕ) (bytes : List ℕ) (w new : Work) (cache new_cache : CacheBook) → IsHeld s 0 w [] → CanDraw (pieces_of (length bytes)) w cache → DrawsLong leg number w new cache new_cache → IsHeld s 0 new []
+long_held s leg number bytes w new cache new_cache held can long =
     let whole : IsWhole (with_source w.counts) = record { rows = held.whole.rows ∙ sym (length-set w.counts.visits pg_input _); errors = held.whole.errors } in
     subst (λ (x : Work). IsHeld s 0 x []) (sym long.rest) (record {
       nodes = held.nodes;
@@ -227,16 +270,16 @@ long_held s leg number w new cache new_cache held can long =
 
 -- how it is settled
 abbrev pub long_settled : Setting → ℕ → List ℕ → Settled
-long_settled s number bytes = record { ended = ended_by (leg_here s ∷ []) (ends_at pg_input (fresh number bytes) (Dropped pg_input TooLong)); refused = None }
+long_settled s number bytes = record { ended = ended_by (leg_here s ∷ []) (pieces_of (length bytes)) (ends_at pg_input (fresh number bytes) (Dropped pg_input TooLong)); refused = None }
 
 source_counts : (f : ℕ → ℕ) (first : ℕ) (tally : Tally) → first < length tally.visits → counts_from f 0 (with_visit first tally).visits ≡ counts_from f 0 tally.visits + f first
 source_counts f first tally inside = (let e = counts_from_more f 0 tally.visits first 1 inside in let same : f (0 + first) ≡ f first = ap f (zero-add first) in omega (arith, e, same))
 
-long_advances : (s : Setting) (leg : Leg) (number : ℕ) (bytes : List ℕ) (w new : Work) (cache new_cache : CacheBook) → IsHeld s 0 w [] → CanDraw w cache → leg ≡ leg_here s → longest_packet < length bytes
+long_advances : (s : Setting) (leg : Leg) (number : ℕ) (bytes : List ℕ) (w new : Work) (cache new_cache : CacheBook) → IsHeld s 0 w [] → CanDraw (pieces_of (length bytes)) w cache → leg ≡ leg_here s → longest_packet < length bytes
     → DrawsLong leg number w new cache new_cache → Advances s 0 (Drawn number bytes ∷ []) (long_settled s number bytes ∷ []) w [] new []
 long_advances s leg number bytes w new cache new_cache held can is too_long long =
     let end : End = ends.Dropped pg_input TooLong in
-    let last : Ended = ended_by (leg_here s ∷ []) (ends_at pg_input (fresh number bytes) (Dropped pg_input TooLong)) in
+    let last : Ended = ended_by (leg_here s ∷ []) (pieces_of (length bytes)) (ends_at pg_input (fresh number bytes) (Dropped pg_input TooLong)) in
     let whole : IsWhole (with_source w.counts) = record { rows = held.whole.rows ∙ sym (length-set w.counts.visits pg_input _); errors = held.whole.errors } in
     let counts : new.counts ≡ counted_end end (with_source w.counts) = ap (λ (x : Work). x.counts) long.rest in
     let memory : new.memory ≡ w.memory = ap (λ (x : Work). x.memory) long.rest in
@@ -376,26 +419,34 @@ none_either : (b : Bool) → ◌≡◌ {A = List ℕ} (cond b [] []) []
 none_either true = refl
 none_either false = refl
 
+-- the chain of a packet was taken out of a cache
+pub record IsTakenOut (bytes : List ℕ) (before cache : CacheBook) : Type 0 where
+  pub len : cache.len + pieces_of (length bytes) ≡ before.len
+  pub freed : cache.freed ≡ before.freed
+  pub allocated : cache.allocated ≡ before.allocated + pieces_of (length bytes)
+  pub taken : cache.taken ≡ before.taken
+  pub given : cache.given ≡ before.given
+
 -- one packet more: too long as it is drawn
-pub long_entered : (s : Setting) (leg : Leg) (so_far : List Arrival) (number : ℕ) (bytes : List ℕ) (old w new : Work) (old_cache cache new_cache : CacheBook) → CanDraw w cache → leg ≡ leg_here s → AreBytes bytes
-    → longest_packet < length bytes → DrawsLong leg number w new cache new_cache → IsEntered s so_far old old_cache w cache
+pub long_entered : (s : Setting) (leg : Leg) (so_far : List Arrival) (number : ℕ) (bytes : List ℕ) (old w new : Work) (old_cache before cache new_cache : CacheBook) → IsTakenOut bytes before cache → CanDraw (pieces_of (length bytes)) w cache
+    → leg ≡ leg_here s → AreBytes bytes → longest_packet < length bytes → DrawsLong leg number w new cache new_cache → IsEntered s so_far old old_cache w before
     → IsEntered s (so_far ++ Drawn number bytes ∷ []) old old_cache new new_cache
-long_entered s leg so_far number bytes old w new old_cache cache new_cache can is sound too_long long entered =
+long_entered s leg so_far number bytes old w new old_cache before cache new_cache out can is sound too_long long entered =
     let all : List Arrival = so_far ++ Drawn number bytes ∷ [] in
     let next = next_of s old.trace all so_far [] (Drawn number bytes) refl in
-    let exchange : Exchanges (Drawn number bytes ∷ []) (long_settled s number bytes ∷ []) cache new_cache = record {
-      len = (let e = ap (λ x. x.len) long.cache in omega (arith, e));
-      freed = ap (λ x. x.freed) long.cache;
-      allocated = ap (λ x. x.allocated) long.cache;
-      taken = ap (λ x. x.taken) long.cache;
-      given = ap (λ x. x.given) long.cache;
+    let exchange : Exchanges (Drawn number bytes ∷ []) (long_settled s number bytes ∷ []) before new_cache = record {
+      len = (let e = ap (λ x. x.len) long.cache in let x = out.len in let one = pieces_long (length bytes) too_long in omega (arith, e, x, one));
+      freed = (let e = ap (λ x. x.freed) long.cache in let x = out.freed in let one = pieces_long (length bytes) too_long in omega (arith, e, x, one));
+      allocated = (let e = ap (λ x. x.allocated) long.cache in let x = out.allocated in omega (arith, e, x));
+      taken = ap (λ x. x.taken) long.cache ∙ out.taken;
+      given = ap (λ x. x.given) long.cache ∙ out.given;
     } in
     let step = long_advances s leg number bytes w new cache new_cache entered.held can is too_long long in
     record {
-      held = long_held s leg number w new cache new_cache entered.held can long;
+      held = long_held s leg number bytes w new cache new_cache entered.held can long;
       settled = entered.settled ++ long_settled s number bytes ∷ [];
       advances = advances_then s 0 so_far (Drawn number bytes ∷ []) entered.settled (long_settled s number bytes ∷ []) old w new [] [] [] entered.advances step;
-      exchanges = exchanges_then so_far (Drawn number bytes ∷ []) entered.settled (long_settled s number bytes ∷ []) old_cache cache new_cache entered.exchanges exchange;
+      exchanges = exchanges_then so_far (Drawn number bytes ∷ []) entered.settled (long_settled s number bytes ∷ []) old_cache before new_cache entered.exchanges exchange;
       sound = all_push IsSoundArrival so_far (Drawn number bytes) entered.sound sound;
       from = all_push (ComesFrom s.graph) so_far (Drawn number bytes) entered.from tt;
       here = all_append EndsHere entered.settled (long_settled s number bytes ∷ []) entered.here ((tt, refl), tt);
@@ -427,20 +478,21 @@ more_entered s so_far e first via c old w new old_cache cache new_cache ok can a
       among = among_enters s so_far e first via c w new arrives enters entered.among;
     }
 
-pub short_entered : (s : Setting) (leg : Leg) (so_far : List Arrival) (number : ℕ) (bytes : List ℕ) (old w new : Work) (old_cache cache new_cache : CacheBook) → IsSetting s → CanDraw w cache → leg ≡ leg_here s
-    → AreBytes bytes → length bytes ≤ longest_packet → DrawsShort s.graph leg number bytes w new cache new_cache → IsEntered s so_far old old_cache w cache
+pub short_entered : (s : Setting) (leg : Leg) (so_far : List Arrival) (number : ℕ) (bytes : List ℕ) (old w new : Work) (old_cache before cache new_cache : CacheBook) → IsSetting s → IsTakenOut bytes before cache
+    → CanDraw (pieces_of (length bytes)) w cache → leg ≡ leg_here s → AreBytes bytes → length bytes ≤ longest_packet → DrawsShort s.graph leg number bytes w new cache new_cache
+    → IsEntered s so_far old old_cache w before
     → IsEntered s (so_far ++ Drawn number bytes ∷ []) old old_cache new new_cache
-short_entered s leg so_far number bytes old w new old_cache cache new_cache ok can is sound short draws entered =
-    let c : Leg → Contents = λ l. record { packet = fresh number bytes; legs = l ∷ [] } in
+short_entered s leg so_far number bytes old w new old_cache before cache new_cache ok out can is sound short draws entered =
+    let c : Leg → Contents = λ l. record { packet = fresh number bytes; legs = l ∷ []; pieces = pieces_of (length bytes) } in
     let enters : Enters s.graph pg_input pg_input (c (leg_here s)) w new = subst (λ l. Enters s.graph pg_input pg_input (c l) w new) is draws.enters in
-    let exchange : Exchanges (Drawn number bytes ∷ []) [] cache new_cache = record {
-      len = (let e = draws.len in omega (arith, e));
-      freed = (let e = ap (λ x. x.freed) draws.cache in omega (arith, e));
-      allocated = ap (λ x. x.allocated) draws.cache;
-      taken = ap (λ x. x.taken) draws.cache;
-      given = ap (λ x. x.given) draws.cache;
+    let exchange : Exchanges (Drawn number bytes ∷ []) [] before new_cache = record {
+      len = (let e = ap (λ x. x.len) draws.cache in let x = out.len in omega (arith, e, x));
+      freed = (let e = ap (λ x. x.freed) draws.cache in let x = out.freed in omega (arith, e, x));
+      allocated = (let e = ap (λ x. x.allocated) draws.cache in let x = out.allocated in omega (arith, e, x));
+      taken = ap (λ x. x.taken) draws.cache ∙ out.taken;
+      given = ap (λ x. x.given) draws.cache ∙ out.given;
     } in
-    more_entered s so_far (Drawn number bytes) pg_input pg_input (c (leg_here s)) old w new old_cache cache new_cache ok can.enter (arrives_drawn s number bytes ok sound short) enters exchange entered
+    more_entered s so_far (Drawn number bytes) pg_input pg_input (c (leg_here s)) old w new old_cache before new_cache ok can.enter (arrives_drawn s number bytes ok sound short) enters exchange entered
 
 -- when all came there is room for what is still to come
 pub room_entered : (s : Setting) (arrivals : List Arrival) (old new : Work) (old_cache new_cache : CacheBook) → IsSetting s → IsReady arrivals old old_cache → IsEntered s arrivals old old_cache new new_cache → HasRoom s 0 new []

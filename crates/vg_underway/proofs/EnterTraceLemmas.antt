@@ -15,14 +15,14 @@ use Rattle.vg_model.specs.Valid.{IsTarget}
 use Rattle.vg_model.specs.Journey.{longest_packet}
 use Rattle.vg_model.specs.PoolBook.{CacheBook}
 use Rattle.vg_model.proofs.LegEnds.{leg_some, arc_target}
-use Rattle.vg_pool.specs.Contents.{Contents, nothing}
+use Rattle.vg_pool.specs.Contents.{Contents}
 use Rattle.vg_frame.specs.Placed.{buffer_at, IsLive}
 use Rattle.vg_counters.specs.Notes.{Notes, nodes_of, noted, most_noted}
 use Rattle.vg_underway.specs.declared.underway.Work.{Work}
 use Rattle.vg_journeys.specs.Ended.{drop_visits, counted_visits}
 use Rattle.vg_journeys.specs.Trips.{Arrival, Drawn, number_of, legs_before}
 use Rattle.vg_journeys.specs.Turns.{arrival_is_of}
-use Rattle.vg_underway.specs.Underway.{Setting, IsSetting, leg_of, leg_here, contents_at}
+use Rattle.vg_underway.specs.Underway.{Setting, IsSetting, leg_of, leg_here, contents_at, nothing}
 use Rattle.vg_underway.specs.Traced.{Sight, IsSeen, is_once, seen, leg_place, visits_to_come, arrival_nodes, arrival_notes, all_visits, IsOnWay, IsTraced, noted_end}
 use Rattle.vg_underway.specs.Works.{IsHeld, outcome_of}
 use Rattle.vg_underway.specs.Draws.{DrawsLong, Enters}

@@ -11,7 +11,7 @@ use Rattle.std.proofs.lemmas.Bool.Decides.{eqb_tells}
 use Rattle.vg_model.specs.declared.kinds.Step.{Step}
 use Rattle.vg_model.specs.Graph.{kind_at}
 use Rattle.vg_model.specs.Valid.{IsTarget, IsVisitOf, IsStepOf}
-use Rattle.vg_pool.specs.Contents.{Contents, AreContents, nothing}
+use Rattle.vg_pool.specs.Contents.{Contents, AreContents}
 use Rattle.vg_frame.specs.Pending.{frame_size, pending_at, pending_count, TakesFrame}
 use Rattle.vg_frame.specs.Placed.{buffer_at, count, IsLive}
 use Rattle.vg_counters.specs.Notes.{Notes}
@@ -21,7 +21,7 @@ use Rattle.vg_nodes.specs.Dispatch.{NodeVisit, after_visit, IsSortedBy, IsVisite
 use Rattle.vg_underway.specs.declared.underway.Work.{Work}
 use Rattle.vg_journeys.specs.Trips.{Arrival}
 use Rattle.vg_journeys.specs.Turns.{Settled}
-use Rattle.vg_underway.specs.Underway.{Setting, Weights, IsSetting, owed, after_at, moved, move_at, move_owed, contents_at, live_at, waiting, in_hand, counts_from, sum_from}
+use Rattle.vg_underway.specs.Underway.{Setting, Weights, IsSetting, owed, after_at, moved, move_at, move_owed, contents_at, live_at, waiting, in_hand, counts_from, sum_from, nothing}
 use Rattle.vg_underway.specs.Places.{same_one, times_waiting, times_in_hand}
 use Rattle.vg_underway.specs.Works.{total, hand_of, IsHeld, IsSteady, IsStepIn, Advances, by_visits, visits_in_all}
 use Rattle.vg_underway.proofs.SumLemmas.{sum_from_take, sum_by_at, counts_from_more, counts_from_at}
@@ -175,7 +175,11 @@ sound_after s node (Some c) new ok target e sound =
     let laws : IsVisitOf s.graph node c.packet (s.visit s.graph node c.packet) = laws_at s node c ok sound.packet target in
     subst (λ x. AreContents (unwrap_or x nothing)) (sym e) (record {
       packet = laws.packet;
-      fits = (let less = laws.len in let fits = sound.fits in omega (arith, less, fits));
+      some = sound.some;
+      few = sound.few;
+      room = laws.room sound.room sound.len;
+      len = (let less = laws.no_larger in let len = sound.len in omega (arith, less, len));
+      fits = (let less = laws.no_larger in let fits = sound.fits in omega (arith, less, fits));
       few_legs = sound.few_legs;
     })
 

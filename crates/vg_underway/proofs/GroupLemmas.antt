@@ -23,7 +23,7 @@ use Rattle.vg_underway.specs.declared.underway.Work.{Work}
 use Rattle.vg_underway.specs.Underway.{Setting, Weights, moved, move_owed, contents_at, in_hand}
 use Rattle.vg_underway.specs.Places.{same_one}
 use Rattle.vg_underway.specs.Traced.{Sight, IsOnWay, with_refusals, visits_after}
-use Rattle.vg_underway.specs.Works.{IsHeld, HasRoom, IsSteady, TakesAll, IsPutAway, IsStepIn, hand_step, by_bytes, by_visits}
+use Rattle.vg_underway.specs.Works.{IsHeld, HasRoom, IsSteady, TakesAll, IsPutAway, IsStepIn, hand_step, by_bytes, by_pieces, by_visits}
 use Rattle.vg_underway.specs.Hands.{handed_to, HasFewLegs, grouped, IsGrouping, IsGrouped}
 use Rattle.vg_underway.proofs.AwayLemmas.{away_none, hand_first, hand_last}
 use Rattle.vg_underway.proofs.HandAllLemmas.{few_kept}
@@ -91,7 +91,10 @@ away_moved s node old old_cache old_hand w cache index one other xs ys same step
       sends = room.sends;
     };
   };
-  takes = away.takes;
+  takes = record {
+    len = (let h = away.takes.len in let e = owes by_pieces in omega (arith, h, e));
+    freed = (let h = away.takes.freed in let e = owes by_pieces in omega (arith, h, e));
+  };
   settled = away.settled;
   advances = record {
     same = λ t. (let h = away.advances.same t in let e = owes t in omega (arith, h, e));
@@ -181,7 +184,7 @@ legs_none : (m : List (Option Contents)) (n : ℕ) → AllByRecursion (AllByRecu
 legs_none m zero = tt
 legs_none m (suc n) = (tt, legs_none m n)
 
-pub grouping_none : (s : Setting) (node : ℕ) (old : Work) (old_cache : CacheBook) (hands : List (ℕ × ℕ)) (groups : List (List ℕ)) → IsSteady s node old (map hand_step hands) → TakesAll old old_cache → groups ≡ replicate s.workers []
+pub grouping_none : (s : Setting) (node : ℕ) (old : Work) (old_cache : CacheBook) (hands : List (ℕ × ℕ)) (groups : List (List ℕ)) → IsSteady s node old (map hand_step hands) → TakesAll s node old (map hand_step hands) old_cache → groups ≡ replicate s.workers []
     → IsGrouping s node old old_cache hands 0 old old_cache groups
 grouping_none s node old old_cache hands groups steady takes empty = subst (IsGrouping s node old old_cache hands 0 old old_cache) (sym empty) (record {
   away = subst (IsPutAway s node old old_cache (map hand_step hands) old old_cache) (sym (ap (λ h. map hand_step hands ++ h) (grouped_none 0 s.workers) ∙ append-nil (map hand_step hands)))
@@ -212,7 +215,8 @@ grouping_put s node old old_cache hands k w new cache new_cache groups same grou
   own = grouping.own;
 }
 
-pub grouping_over : (s : Setting) (node : ℕ) (old : Work) (old_cache : CacheBook) (hands : List (ℕ × ℕ)) (k : ℕ) (w new : Work) (cache new_cache : CacheBook) (groups : List (List ℕ)) (i : ℕ) → Changes w.memory new.memory i None → IsGrouping s node old old_cache hands k w cache groups
+pub grouping_over : (s : Setting) (node : ℕ) (old : Work) (old_cache : CacheBook) (hands : List (ℕ × ℕ)) (k : ℕ) (w new : Work) (cache new_cache : CacheBook) (groups : List (List ℕ)) (i : ℕ)
+    → Changes w.memory new.memory i None → IsGrouping s node old old_cache hands k w cache groups
     → IsPutAway s node old old_cache (map hand_step hands) new new_cache (map hand_step (drop (k + 1) hands) ++ grouped 0 groups) → IsGrouping s node old old_cache hands (k + 1) new new_cache groups
 grouping_over s node old old_cache hands k w new cache new_cache groups i changes grouping away = record {
   away = away;

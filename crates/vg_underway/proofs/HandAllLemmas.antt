@@ -13,20 +13,20 @@ use Rattle.vg_model.specs.Leg as legs
 use Rattle.vg_model.specs.Graph.{kind_at}
 use Rattle.vg_model.specs.Valid.{IsTarget}
 use Rattle.vg_model.specs.PoolBook.{CacheBook}
-use Rattle.vg_pool.specs.Contents.{Contents, nothing}
+use Rattle.vg_pool.specs.Contents.{Contents}
 use Rattle.vg_frame.specs.Placed.{buffer_at, count, Changes, IsLive}
 use Rattle.vg_journeys.specs.Chains.{count_some}
 use Rattle.vg_journeys.specs.Trips.{Arrival, Taken, last_generation}
 use Rattle.vg_journeys.specs.Accounts.{HandoffFrame, frame_arrivals, arrivals_in}
-use Rattle.vg_journeys.specs.Turns.{Settled, settled_onward}
+use Rattle.vg_journeys.specs.Turns.{Settled, settled_onward, settled_pieces}
 use Rattle.vg_hands.specs.Handed.{IsHanded}
 use Rattle.vg_underway.specs.declared.underway.Work.{Work}
-use Rattle.vg_underway.specs.Underway.{Setting, IsSetting, moved, contents_at}
-use Rattle.vg_underway.specs.Works.{IsSteady, TakesAll, logged_count}
+use Rattle.vg_underway.specs.Underway.{Setting, IsSetting, moved, contents_at, nothing, move_owed}
+use Rattle.vg_underway.specs.Works.{IsSteady, Exchanges, TakesAll, by_pieces}
 use Rattle.vg_journeys.specs.Counts.{IsCountAt}
-use Rattle.vg_underway.specs.Hands.{CanRefuse, Refuses, handed_to, HasFewLegs, HandsOver}
+use Rattle.vg_underway.specs.Hands.{CanRefuse, Refuses, handed_to, HasFewLegs, HandsOver, all_chains}
 use Rattle.vg_underway.proofs.OwedLemmas.{target_within}
-use Rattle.vg_underway.proofs.WorkLemmas.{live_in_hand, advances_none, advances_then}
+use Rattle.vg_underway.proofs.WorkLemmas.{live_in_hand, advances_none, advances_then, takes_kept, pieces_kept}
 use Rattle.vg_underway.proofs.TraceLemmas.{not_live, traced_same, traced_then}
 use Rattle.vg_underway.proofs.AwayLemmas.{can_count, some_in_hand}
 use Rattle.vg_underway.proofs.HandLemmas.{handed_settled, hands_to, Passes, accepted_passes, refused_passes}
@@ -176,13 +176,18 @@ sum_refused node to accepted count (c ∷ cs) =
     let rest = sum_refused node to accepted count cs in
     omega (arith, rest, sum_by-cons (λ x. count_some count (settled_onward x)) (handed_settled node to c (Some accepted)) (map (λ c. handed_settled node to c (Some accepted)) cs))
 
-logged_accepted : (node to : ℕ) (cs : List Contents) → logged_count (map (λ c. handed_settled node to c None) cs) ≡ 0
-logged_accepted node to [] = refl
-logged_accepted node to (c ∷ cs) = logged_accepted node to cs
+-- the buffers of packets that the queue accepted stay with them; those of packets that it refused come back
+pieces_accepted : (node to : ℕ) (cs : List Contents) → sum_by settled_pieces (map (λ c. handed_settled node to c None) cs) ≡ 0
+pieces_accepted node to [] = refl
+pieces_accepted node to (c ∷ cs) =
+    let rest = pieces_accepted node to cs in
+    omega (arith, rest, sum_by-cons settled_pieces (handed_settled node to c None) (map (λ c. handed_settled node to c None) cs))
 
-logged_refused : (node to accepted : ℕ) (cs : List Contents) → logged_count (map (λ c. handed_settled node to c (Some accepted)) cs) ≡ length cs
-logged_refused node to accepted [] = refl
-logged_refused node to accepted (c ∷ cs) = ap suc (logged_refused node to accepted cs)
+pieces_refused : (node to accepted : ℕ) (cs : List Contents) → sum_by settled_pieces (map (λ c. handed_settled node to c (Some accepted)) cs) ≡ all_chains cs
+pieces_refused node to accepted [] = refl
+pieces_refused node to accepted (c ∷ cs) =
+    let rest = pieces_refused node to accepted cs in
+    omega (arith, rest, sum_by-cons settled_pieces (handed_settled node to c (Some accepted)) (map (λ c. handed_settled node to c (Some accepted)) cs), sum_by-cons (λ (x : Contents). x.pieces) c cs)
 
 all_to : (node to : ℕ) (refused : Option ℕ) (cs : List Contents) → AllByRecursion (λ x. x.ended.outcome ≡ legs.Handed node to) (map (λ c. handed_settled node to c refused) cs)
 all_to node to refused [] = tt
@@ -218,22 +223,22 @@ fewer_in_hand to is settled rest size =
 
 -- the queue accepted the frame
 pub handed_accepted : (s : Setting) (node to slots : ℕ) (lossless : Bool) (generation : ℕ) (w new : Work) (cache : CacheBook) (put : List HandoffFrame) (new_put : List HandoffFrame) (rest : List (ℕ × Step)) (is : List ℕ) (cs : List Contents) → to < s.workers → to ≢ s.worker
-    → new ≡ record w { memory = new.memory } → Lifts w.memory is cs new.memory → IsSteady s node w (handed_to to is ++ rest) → AllByRecursion (HasFewLegs w.memory) is → TakesAll w cache
+    → new ≡ record w { memory = new.memory } → Lifts w.memory is cs new.memory → IsSteady s node w (handed_to to is ++ rest) → AllByRecursion (HasFewLegs w.memory) is → TakesAll s node w (handed_to to is ++ rest) cache
     → new_put ≡ put ++ record { node = node; generation = generation; packets = cs } ∷ [] → 1 ≤ length is → HandsOver s node to slots lossless w cache put (handed_to to is ++ rest) new cache new_put rest
 handed_accepted s node to slots lossless generation w new cache put new_put rest is cs within other same lifts steady few takes accepted some =
     let settled : List Settled = map (λ c. handed_settled node to c None) cs in
     let all : Passes s node settled w (handed_to to is ++ rest) new rest =
     subst (λ (x : Work). Passes s node settled w (handed_to to is ++ rest) x rest) (sym same) (accepted_all s node to w rest w.memory is cs new.memory within other lifts steady few) in
-    let live : count new.memory + length settled ≡ count w.memory + 0 = all.advances.live in
-    let logged = logged_accepted node to cs in
+    let back = pieces_accepted node to cs in
+    let exchange : Exchanges [] settled cache cache = record { len = omega (arith, back); freed = omega (arith, back); allocated = omega arith; taken = refl; given = refl } in
     let each = lifts_length w.memory is cs new.memory lifts in
     let size : length settled ≡ length is = length-map cs (λ c. handed_settled node to c None) ∙ each in
     record {
       steady = all.steady;
-      takes = record { len = (let h = takes.len in omega (arith, h, live)); freed = (let h = takes.freed in omega (arith, h, live)) };
+      takes = takes_kept s node settled w new (handed_to to is ++ rest) rest cache cache takes all.advances exchange;
       settled = settled;
       advances = all.advances;
-      exchanges = record { len = omega (arith, logged); freed = omega (arith, logged); allocated = omega arith; taken = refl; given = refl };
+      exchanges = exchange;
       to_it = all_to node to None cs;
       refusals = all_refused node to None (λ count. IsCountAt slots lossless count (length put) (length new_put)) cs (λ count e. cc);
       went = λ count.
@@ -253,7 +258,7 @@ handed_accepted s node to slots lossless generation w new cache put new_put rest
 -- it was full
 pub handed_refused : (s : Setting) (node to slots accepted : ℕ) (lossless : Bool) (w mid new : Work) (cache new_cache : CacheBook) (put new_put : List HandoffFrame) (rest : List (ℕ × Step)) (is : List ℕ) (cs : List Contents) → IsSetting s → IsTarget (kind_at s.graph node)
     → to < s.workers → to ≢ s.worker → mid ≡ record w { memory = mid.memory } → Lifts w.memory is cs mid.memory → RefusesAll node accepted cs mid new → IsSteady s node w (handed_to to is ++ rest) → AllByRecursion (HasFewLegs w.memory) is
-    → TakesAll w cache → new_cache ≡ record cache { len = cache.len + length cs; freed = cache.freed + length cs } → new_put ≡ put → accepted ≡ length put → slots ≤ accepted → lossless ≡ false
+    → TakesAll s node w (handed_to to is ++ rest) cache → new_cache ≡ record cache { len = cache.len + all_chains cs; freed = cache.freed + all_chains cs } → new_put ≡ put → accepted ≡ length put → slots ≤ accepted → lossless ≡ false
     → HandsOver s node to slots lossless w cache put (handed_to to is ++ rest) new new_cache new_put rest
 handed_refused s node to slots accepted lossless w mid new cache new_cache put new_put rest is cs ok target within other same lifts refused steady few takes moved same_put so_many most lossy =
     let settled : List Settled = map (λ c. handed_settled node to c (Some accepted)) cs in
@@ -264,18 +269,24 @@ handed_refused s node to slots accepted lossless w mid new cache new_cache put n
     let last : record new { memory = mid.memory } ≡ new = ap (λ m. record new { memory = m }) (sym memory) in
     let all : Passes s node settled w (handed_to to is ++ rest) new rest =
     subst (λ (x : Work). Passes s node settled x (handed_to to is ++ rest) new rest) (sym back) (subst (λ (x : Work). Passes s node settled (record mid { memory = w.memory }) (handed_to to is ++ rest) x rest) last passes) in
-    let live : count new.memory + length settled ≡ count w.memory + 0 = all.advances.live in
     let size : length settled ≡ length cs = length-map cs (λ c. handed_settled node to c (Some accepted)) in
-    let logged = logged_refused node to accepted cs in
-    let len : new_cache.len ≡ cache.len + length cs = ap (λ x. x.len) moved in
-    let freed : new_cache.freed ≡ cache.freed + length cs = ap (λ x. x.freed) moved in
+    let chains = pieces_refused node to accepted cs in
+    let len : new_cache.len ≡ cache.len + all_chains cs = ap (λ x. x.len) moved in
+    let freed : new_cache.freed ≡ cache.freed + all_chains cs = ap (λ x. x.freed) moved in
     let allocated : new_cache.allocated ≡ cache.allocated = ap (λ x. x.allocated) moved in
+    let exchange : Exchanges [] settled cache new_cache = record {
+      len = omega (arith, chains, len);
+      freed = omega (arith, chains, freed);
+      allocated = omega (arith, allocated);
+      taken = ap (λ x. x.taken) moved;
+      given = ap (λ x. x.given) moved;
+    } in
     record {
       steady = all.steady;
-      takes = record { len = (let h = takes.len in omega (arith, h, live, size, len)); freed = (let h = takes.freed in omega (arith, h, live, size, freed)) };
+      takes = takes_kept s node settled w new (handed_to to is ++ rest) rest cache new_cache takes all.advances exchange;
       settled = settled;
       advances = all.advances;
-      exchanges = record { len = omega (arith, logged, len); freed = omega (arith, logged, freed); allocated = omega (arith, allocated); taken = ap (λ x. x.taken) moved; given = ap (λ x. x.given) moved };
+      exchanges = exchange;
       to_it = all_to node to (Some accepted) cs;
       refusals = all_refused node to (Some accepted) (λ count. IsCountAt slots lossless count (length put) (length new_put)) cs
           (λ count e. let n : accepted ≡ count = cc in let puts = ap length same_put in record {
@@ -294,6 +305,10 @@ handed_refused s node to slots accepted lossless w mid new cache new_cache put n
       traced = all.traced;
     }
 
+back_of : (P : ℕ → Type 0) (xs ys : List ℕ) → AllByRecursion P (xs ++ ys) → AllByRecursion P ys
+back_of P [] ys all = all
+back_of P (x ∷ xs) ys all = back_of P xs ys all.1
+
 front_of : (P : ℕ → Type 0) (xs ys : List ℕ) → AllByRecursion P (xs ++ ys) → AllByRecursion P xs
 front_of P [] ys all = tt
 front_of P (x ∷ xs) ys all = (all.0, front_of P xs ys all.1)
@@ -301,8 +316,8 @@ front_of P (x ∷ xs) ys all = (all.0, front_of P xs ys all.1)
 -- while it is full, the next packet may be dropped
 pub can_refuse : (s : Setting) (node to accepted : ℕ) (w mid new : Work) (cache : CacheBook) (now : CacheBook) (rest : List (ℕ × Step)) (is : List ℕ) (cs done left : List Contents) (c : Contents) → IsSetting s → IsTarget (kind_at s.graph node)
     → to < s.workers → to ≢ s.worker → mid ≡ record w { memory = mid.memory } → Lifts w.memory is cs mid.memory → cs ≡ done ++ c ∷ left → RefusesAll node accepted done mid new → IsSteady s node w (handed_to to is ++ rest)
-    → AllByRecursion (HasFewLegs w.memory) is → TakesAll w cache → now ≡ record cache { len = cache.len + length done; freed = cache.freed + length done } → CanRefuse node c new now
-can_refuse s node to accepted w mid new cache now rest is cs done left c ok target within other same lifts split refused steady few takes moved =
+    → AllByRecursion (HasFewLegs w.memory) is → TakesAll s node w (handed_to to is ++ rest) cache → now ≡ record cache { len = cache.len + all_chains done; freed = cache.freed + all_chains done } → CanRefuse node c new now
+can_refuse s node to accepted w mid new cache now rest is cs done left c ok target within other same lifts split refused steady few takes now_is =
     by parts.back parts.second parts.both
   where
     parts : AreSplit w.memory is done (c ∷ left) mid.memory
@@ -327,14 +342,23 @@ can_refuse s node to accepted w mid new cache now rest is cs done left c ok targ
         let legs_some = (passes.steady.held.legs i live).0 in
         let legs_few = (passes.steady.held.sound i).few_legs in
         let size = ap (λ (x : Contents). length x.legs) there in
-        let all : count parts.mid + length (map (λ c. handed_settled node to c (Some accepted)) done) ≡ count w.memory + 0 = passes.advances.live in
-        let dones = length-map done (λ c. handed_settled node to c (Some accepted)) in
+        let few_back : AllByRecursion (HasFewLegs w.memory) (i ∷ later) = back_of (HasFewLegs w.memory) parts.front (i ∷ later) (subst (AllByRecursion (HasFewLegs w.memory)) both few) in
+        let few_here : HasFewLegs parts.mid i = lifts_few w.memory parts.front done parts.mid i parts.first few_back.0 in
+        let goes : moved s node (contents_at parts.mid i) (Hand to) ≡ legs.Over (legs.Handed node to) = hands_to s node to (contents_at parts.mid i) within other (few_here live) in
+        let owes = ap (move_owed s by_pieces (contents_at parts.mid i)) goes in
+        let chain = ap (λ (x : Contents). x.pieces) there in
+        let front = sum_by-cons (λ (q : ℕ × Step). move_owed s by_pieces (contents_at parts.mid q.0) (moved s node (contents_at parts.mid q.0) q.1)) (i, Hand to) (handed_to to later ++ rest) in
+        let held = pieces_kept s node (map (λ c. handed_settled node to c (Some accepted)) done) (record mid { memory = w.memory }) v (handed_to to parts.front ++ (handed_to to (i ∷ later) ++ rest)) (handed_to to (i ∷ later) ++ rest)
+        passes.advances in
+        let chains = pieces_refused node to accepted done in
+        let begun : TakesAll s node (record mid { memory = w.memory }) (handed_to to parts.front ++ (handed_to to (i ∷ later) ++ rest)) cache =
+        subst (λ h. TakesAll s node (record mid { memory = w.memory }) h cache) hand (subst (λ (x : Work). TakesAll s node x (handed_to to is ++ rest) cache) back_is takes) in
         record {
           legs = (omega (arith, legs_some, size), omega (arith, legs_few, size));
           fates = (let room = passes.steady.room.fates in omega (arith, room, some));
           counts = can_count s node v (i, Hand to) (handed_to to later ++ rest) (ends.Dropped node Congestion) ok passes.steady (target_within s.graph node target);
-          len = (let h = takes.len in let e = ap (λ x. x.len) moved in omega (arith, h, e, all, dones, some));
-          freed = (let h = takes.freed in let e = ap (λ x. x.freed) moved in omega (arith, h, e, all, dones, some));
+          len = (let h = begun.len in let e = ap (λ x. x.len) now_is in omega (arith, h, e, held, chains, owes, chain, front));
+          freed = (let h = begun.freed in let e = ap (λ x. x.freed) now_is in omega (arith, h, e, held, chains));
         }
 
 -- of these packets so many were lifted
@@ -405,11 +429,12 @@ lifting_more s node to old items k packets w i c memory more some within other i
 pub lifting_all : (s : Setting) (node to : ℕ) (old : Work) (items : List ℕ) (k : ℕ) (packets : List Contents) (w : Work) → length items ≤ k → IsLifting s node to old items k packets w → Lifts old.memory items packets w.memory
 lifting_all s node to old items k packets w past lifting = subst (λ js. Lifts old.memory js packets w.memory) (take_all k items past) lifting.lifts
 
--- a cache with one buffer more
-pub one_more : (cache : CacheBook) (n : ℕ) → ◌≡◌ {A = CacheBook} (record cache { len = cache.len + n + 1; freed = cache.freed + n + 1 }) (record cache { len = cache.len + (n + 1); freed = cache.freed + (n + 1) })
-one_more cache n =
+-- a cache with the buffers of one packet more
+pub one_more : (cache : CacheBook) (n m : ℕ) → ◌≡◌ {A = CacheBook} (record cache { len = cache.len + n + m; freed = cache.freed + n + m }) (record cache { len = cache.len + (n + m); freed = cache.freed + (n + m) })
+one_more cache n m =
     let make : ℕ → ℕ → CacheBook = λ l f. record cache { len = l; freed = f } in
-    ap (λ l. make l (cache.freed + n + 1)) (let e : cache.len + n + 1 ≡ cache.len + (n + 1) = omega arith in e) ∙ ap (make (cache.len + (n + 1))) (let e : cache.freed + n + 1 ≡ cache.freed + (n + 1) = omega arith in e)
+    ap (λ l. make l (cache.freed + n + m)) (let e : cache.len + n + m ≡ cache.len + (n + m) = omega arith in e)
+    ∙ ap (make (cache.len + (n + m))) (let e : cache.freed + n + m ≡ cache.freed + (n + m) = omega arith in e)
 
 -- and with none
 pub none_more : (cache : CacheBook) → ◌≡◌ {A = CacheBook} cache (record cache { len = cache.len + 0; freed = cache.freed + 0 })

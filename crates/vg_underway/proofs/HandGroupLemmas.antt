@@ -35,7 +35,7 @@ puts_then s node slots lossless a b c xa xb xc pa pb pc ha hb hc one two tells =
 }
 
 pub puts_none : {told : List Settled → Type 0} (s : Setting) (node slots : ℕ) (lossless : Bool) (w : Work) (cache : CacheBook) (put : List (List HandoffFrame)) (hand : List (ℕ × Step)) → IsSteady s node w hand
-    → TakesAll w cache → told [] → PutsAway s node slots lossless told w cache put hand w cache put hand
+    → TakesAll s node w hand cache → told [] → PutsAway s node slots lossless told w cache put hand w cache put hand
 puts_none s node slots lossless w cache put hand steady takes tells = record {
   steady = steady;
   takes = takes;
@@ -139,7 +139,8 @@ pub record IsHandingAll (s : Setting) (node slots : ℕ) (lossless : Bool) (told
   pub groups_are : AreGroups s w groups
   pub front : (i : ℕ) → i < k → get_or groups i [] ≡ []
 
-pub handing_none : {told : List Settled → Type 0} (s : Setting) (node slots : ℕ) (lossless : Bool) (old : Work) (old_cache : CacheBook) (put : List (List HandoffFrame)) (groups : List (List ℕ)) → IsSteady s node old (grouped 0 groups) → TakesAll old old_cache → AreGroups s old groups → told []
+pub handing_none : {told : List Settled → Type 0} (s : Setting) (node slots : ℕ) (lossless : Bool) (old : Work) (old_cache : CacheBook) (put : List (List HandoffFrame)) (groups : List (List ℕ))
+    → IsSteady s node old (grouped 0 groups) → TakesAll s node old (grouped 0 groups) old_cache → AreGroups s old groups → told []
     → IsHandingAll s node slots lossless told old old_cache put (grouped 0 groups) 0 old old_cache put groups
 handing_none s node slots lossless old old_cache put groups steady takes are tells = record {
   away = puts_none s node slots lossless old old_cache put (grouped 0 groups) steady takes tells;
@@ -166,6 +167,14 @@ pub handing_steady : {told : List Settled → Type 0} (s : Setting) (node slots 
     → get_or groups k [] ≡ group → IsHandingAll s node slots lossless told old old_cache old_put old_hand k w cache put groups → IsSteady s node w (handed_to k group ++ grouped 0 (set groups k []))
 handing_steady s node slots lossless old old_cache old_put old_hand k w cache put groups group inside at h =
     subst (IsSteady s node w) (grouped_first 0 k groups inside h.front ∙ ap (λ n. handed_to n (get_or groups k []) ++ grouped 0 (set groups k [])) (let e : 0 + k ≡ k = omega arith in e) ∙ ap (λ g. handed_to k g ++ grouped 0 (set groups k [])) at) h.away.steady
+
+-- the cache has room for them too
+pub handing_takes : {told : List Settled → Type 0} (s : Setting) (node slots : ℕ) (lossless : Bool) (old : Work) (old_cache : CacheBook) (old_put : List (List HandoffFrame)) (old_hand : List (ℕ × Step)) (k : ℕ)
+    (w : Work) (cache : CacheBook) (put : List (List HandoffFrame)) (groups : List (List ℕ)) (group : List ℕ) → k < length groups
+    → get_or groups k [] ≡ group → IsHandingAll s node slots lossless told old old_cache old_put old_hand k w cache put groups → TakesAll s node w (handed_to k group ++ grouped 0 (set groups k [])) cache
+handing_takes s node slots lossless old old_cache old_put old_hand k w cache put groups group inside at h =
+    subst (λ hand. TakesAll s node w hand cache) (grouped_first 0 k groups inside h.front ∙ ap (λ n. handed_to n (get_or groups k []) ++ grouped 0 (set groups k [])) (let e : 0 + k ≡ k = omega arith in e) ∙ ap (λ g. handed_to k g ++ grouped 0 (set groups k [])) at)
+    h.away.takes
 
 legs_after : (old new : Work) (groups : List (List ℕ)) → ((i : ℕ) → HasFewLegs old.memory i → HasFewLegs new.memory i) → AllByRecursion (AllByRecursion (HasFewLegs old.memory)) groups → AllByRecursion (AllByRecursion (HasFewLegs new.memory)) groups
 legs_after old new groups each all =
@@ -214,7 +223,8 @@ handing_all {told = told} s node slots lossless old old_cache old_put old_hand k
     (subst (PutsAway s node slots lossless told old old_cache old_put old_hand w cache put) (ap (grouped 0) none ∙ grouped_none 0 s.workers) h.away, none)
 
 -- the queue to a worker among those to all others
-pub queue_at : {X : Type 0} (accepted : X → List HandoffFrame) (station : Station) (to : ℕ) (xs : List X) (x : X) → to ≢ station.worker → to < station.workers → station.worker < station.workers → length (map accepted xs) + 1 ≡ station.workers → x ≡ get_or xs (place_among station.worker to) x
+pub queue_at : {X : Type 0} (accepted : X → List HandoffFrame) (station : Station) (to : ℕ) (xs : List X) (x : X) → to ≢ station.worker → to < station.workers
+    → station.worker < station.workers → length (map accepted xs) + 1 ≡ station.workers → x ≡ get_or xs (place_among station.worker to) x
     → (place_among station.worker to < length xs) × (frames_with to (by_worker station.worker [] (map accepted xs)) ≡ accepted x)
 queue_at accepted station to xs x other within own each at =
     let len = length-map xs accepted in

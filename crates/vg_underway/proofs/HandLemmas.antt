@@ -16,7 +16,7 @@ use Rattle.vg_model.specs.Errors.{error_number}
 use Rattle.vg_model.specs.Graph.{arc}
 use Rattle.vg_model.specs.Leg.{Onward, Over}
 use Rattle.vg_model.specs.Leg as legs
-use Rattle.vg_pool.specs.Contents.{Contents, AreContents, nothing}
+use Rattle.vg_pool.specs.Contents.{Contents, AreContents}
 use Rattle.vg_frame.specs.Pending.{pending_at, pending_count}
 use Rattle.vg_frame.specs.Placed.{buffer_at, count, Changes}
 use Rattle.vg_counters.specs.Notes.{most_noted}
@@ -25,7 +25,7 @@ use Rattle.vg_journeys.specs.Ended.{Ended, drop_visits}
 use Rattle.vg_journeys.specs.Turns.{Settled, settled_noted}
 use Rattle.vg_underway.specs.declared.underway.Work.{Work}
 use Rattle.vg_underway.specs.SentEntries.{sent_by, AreWithin}
-use Rattle.vg_underway.specs.Underway.{Setting, Weights, moved, move_owed, contents_at, live_at, waiting, in_hand, counts_from}
+use Rattle.vg_underway.specs.Underway.{Setting, Weights, moved, move_owed, contents_at, live_at, waiting, in_hand, counts_from, nothing}
 use Rattle.vg_underway.specs.Places.{same_one, times_waiting, times_in_hand}
 use Rattle.vg_underway.specs.Traced.{Sight, IsSeen, StayTraced, leg_place, nodes_noted, noted_end, visits_after}
 use Rattle.vg_underway.specs.Works.{IsHeld, IsSteady, Advances, CanCount, counted_end}

@@ -13,6 +13,7 @@ pub mod VisitedLemmas
 pub mod AwayLemmas
 pub mod EnterTraceLemmas
 pub mod DrawLemmas
+pub mod ChainLemmas
 pub mod TakeLemmas
 pub mod HandLemmas
 pub mod HandAllLemmas

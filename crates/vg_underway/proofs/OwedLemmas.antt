@@ -14,12 +14,12 @@ use Rattle.vg_model.proofs.LegEnds.{leg_some, arc_target, kind_some}
 use Rattle.vg_pool.specs.Contents.{Contents}
 use Rattle.vg_underway.specs.Underway.{Setting, Weights, IsSetting, leg_of, end_weight, way_weight, owed, after_at, move_at, move_owed}
 
-weight_after : (t : Weights) (legs : List Leg) (node : ℕ) (way : Way) → way_weight t legs (after_visit node way) ≡ t.visits node + way_weight t legs way
-weight_after t legs node way = omega (arith, sum_by-cons t.visits node way.visits)
+weight_after : (t : Weights) (legs : List Leg) (pieces node : ℕ) (way : Way) → way_weight t legs pieces (after_visit node way) ≡ t.visits node + way_weight t legs pieces way
+weight_after t legs pieces node way = omega (arith, sum_by-cons t.visits node way.visits)
 
-pub some_weight : (t : Weights) (legs : List Leg) (node : ℕ) (o : Option Way) (way : Way) → o ≡ Some way
-    → unwrap_or (option_map (way_weight t legs) (option_map (after_visit node) o)) 0 ≡ t.visits node + unwrap_or (option_map (way_weight t legs) o) 0
-some_weight t legs node o way e = rw e (weight_after t legs node way)
+pub some_weight : (t : Weights) (legs : List Leg) (pieces node : ℕ) (o : Option Way) (way : Way) → o ≡ Some way
+    → unwrap_or (option_map (way_weight t legs pieces) (option_map (after_visit node) o)) 0 ≡ t.visits node + unwrap_or (option_map (way_weight t legs pieces) o) 0
+some_weight t legs pieces node o way e = rw e (weight_after t legs pieces node way)
 
 step_of : (s : Setting) (node : ℕ) (c : Contents) → IsSetting s
     → leg_of s node c ≡ joined node (after_at s node c).packet (move_at s node c) (λ to. leg_of s to (after_at s node c))
@@ -36,15 +36,15 @@ owed_onward s t node to c ok sound here e =
     let laws : IsVisitOf s.graph node c.packet (s.visit s.graph node c.packet) = laws_at s node c ok sound here in
     let target : IsTarget (kind_at s.graph to) = arc_target s.graph node to ok.valid (move_arc s.graph s.workers s.worker (length c.legs) node to _ e) in
     let rest = leg_some s.visit s.graph s.workers s.worker (length c.legs) to (after_at s node c).packet ok.kinds ok.valid laws.packet target in
-    ap (λ o. unwrap_or (option_map (way_weight t c.legs) o) 0)
+    ap (λ o. unwrap_or (option_map (way_weight t c.legs c.pieces) o) 0)
     (step_of s node c ok ∙ ap (λ move. joined node (after_at s node c).packet move (λ to. leg_of s to (after_at s node c))) e)
-    ∙ some_weight t c.legs node (leg_of s to (after_at s node c)) rest.0 rest.1
+    ∙ some_weight t c.legs c.pieces node (leg_of s to (after_at s node c)) rest.0 rest.1
 
 -- a visit after which the leg is over
 owed_over : (s : Setting) (t : Weights) (node : ℕ) (outcome : Outcome) (c : Contents) → IsSetting s
     → move_at s node c ≡ Over outcome → owed s t node c ≡ t.visits node + end_weight t (record { outcome = outcome; contents = after_at s node c })
 owed_over s t node outcome c ok e =
-    ap (λ o. unwrap_or (option_map (way_weight t c.legs) o) 0)
+    ap (λ o. unwrap_or (option_map (way_weight t c.legs c.pieces) o) 0)
     (step_of s node c ok ∙ ap (λ move. joined node (after_at s node c).packet move (λ to. leg_of s to (after_at s node c))) e)
     ∙ ap (λ k. k + end_weight t (record { outcome = outcome; contents = after_at s node c })) (zero-add (t.visits node))
 

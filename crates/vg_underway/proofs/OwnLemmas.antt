@@ -4,10 +4,11 @@ use Rattle.std.specs.Prelude.{Some, option_map, slice_get}
 use Rattle.std.proofs.lemmas.Option.{slice_get-get_or}
 use Rattle.std.proofs.lemmas.List.{drop-drop, get_or_default, take_all}
 use Rattle.std.proofs.lemmas.List.Sums.{sum_by-append, sum_by-cons, sum_by-take-drop, sum_by_more}
+use Rattle.vg_model.specs.Packet.{first_room}
 use Rattle.vg_capture.specs.declared.captures.Captured.{Captured}
 use Rattle.vg_journeys.specs.Trips.{Arrival, Drawn}
 use Rattle.vg_journeys.specs.Windows.{next_draws, mark_behind, AreThere}
-use Rattle.vg_underway.specs.OwnPackets.{every, own_from, captured_bytes, frames_of}
+use Rattle.vg_underway.specs.OwnPackets.{every, own_from, received_extent, captured_extent, frames_of}
 use Rattle.vg_underway.specs.Draws.{AreBelow}
 use Rattle.vg_underway.proofs.PeerLemmas.{map_at}
 
@@ -27,12 +28,12 @@ own_fewer workers skip [] = omega arith
 own_fewer workers zero (x ∷ xs) = let rest = own_fewer workers (workers - 1) xs in omega (arith, rest)
 own_fewer workers (suc k) (x ∷ xs) = let rest = own_fewer workers k xs in omega (arith, rest)
 
-pub own_lighter : (workers skip : ℕ) (xs : List Captured) → captured_bytes (every workers skip xs) ≤ captured_bytes xs
+pub own_lighter : (workers skip : ℕ) (xs : List Captured) → captured_extent (every workers skip xs) ≤ captured_extent xs
 own_lighter workers skip [] = omega arith
 own_lighter workers zero (x ∷ xs) =
     let rest = own_lighter workers (workers - 1) xs in
-    omega (arith, rest, sum_by-cons (λ (c : Captured). length c.bytes) x xs, sum_by-cons (λ (c : Captured). length c.bytes) x (every workers (workers - 1) xs))
-own_lighter workers (suc k) (x ∷ xs) = let rest = own_lighter workers k xs in omega (arith, rest, sum_by-cons (λ (c : Captured). length c.bytes) x xs)
+    omega (arith, rest, sum_by-cons received_extent x xs, sum_by-cons received_extent x (every workers (workers - 1) xs))
+own_lighter workers (suc k) (x ∷ xs) = let rest = own_lighter workers k xs in omega (arith, rest, sum_by-cons received_extent x xs)
 
 -- one more of a list
 pub take_next : {X : Type 0} (k : ℕ) (xs : List X) (y : X) (ys : List X) → drop k xs ≡ y ∷ ys → take (suc k) xs ≡ take k xs ++ y ∷ []
@@ -80,8 +81,8 @@ next_drawn workers mark count number packets elem bytes is inside at bytes_are =
 
 pub record IsOwnStep (workers mark count number : ℕ) (packets : List Captured) (elem : Captured) : Type 0 where
   pub own : own_from workers (number + workers) packets ≡ drop (count + 1) (own_from workers mark packets)
-  pub bytes : captured_bytes (take (count + 1) (own_from workers mark packets)) ≡ captured_bytes (take count (own_from workers mark packets)) + length elem.bytes
-  pub most : captured_bytes (take (count + 1) (own_from workers mark packets)) ≤ captured_bytes packets
+  pub bytes : captured_extent (take (count + 1) (own_from workers mark packets)) ≡ captured_extent (take count (own_from workers mark packets)) + received_extent elem
+  pub most : captured_extent (take (count + 1) (own_from workers mark packets)) ≤ captured_extent packets
 
 pub own_step : (workers mark count number : ℕ) (packets : List Captured) (elem : Captured) → 0 < workers → number < length packets → elem ≡ get_or packets number elem → own_from workers number packets ≡ drop count (own_from workers mark packets)
     → IsOwnStep workers mark count number packets elem
@@ -89,8 +90,8 @@ own_step workers mark count number packets elem some inside at so_far =
     let first = own_first workers number packets elem some inside in
     let split : drop count (own_from workers mark packets) ≡ elem ∷ own_from workers (number + workers) packets = sym so_far ∙ first ∙ ap (λ x. x ∷ own_from workers (number + workers) packets) (sym at) in
     let more = ap (λ n. take n (own_from workers mark packets)) (add-one count) ∙ take_next count (own_from workers mark packets) elem (own_from workers (number + workers) packets) split in
-    let weight = λ (c : Captured). length c.bytes in
-    let sum = ap captured_bytes more in
+    let weight : Captured → ℕ = received_extent in
+    let sum = ap captured_extent more in
     let both = sum_by-append weight (take count (own_from workers mark packets)) (elem ∷ []) in
     let last = sum_by-cons weight elem [] in
     let front = sum_by-take-drop weight (own_from workers mark packets) (count + 1) in
@@ -117,15 +118,15 @@ captured_there packets k bytes inside read =
     let same : Some bytes ≡ Some captured.bytes = sym read ∙ found in
     (captured, get_or_default packets k none captured inside, (let e : bytes ≡ captured.bytes = cc in e))
 
--- the bytes of one packet more
+-- one packet more
 pub bytes_more : (k total : ℕ) (packets : List Captured) (captured : Captured) (bytes : List ℕ) → k < length packets → captured ≡ get_or packets k captured → bytes ≡ captured.bytes
-    → total ≡ captured_bytes (take k packets) → total + length bytes ≡ captured_bytes (take (k + 1) packets)
+    → total ≡ captured_extent (take k packets) → total + (length bytes + first_room) ≡ captured_extent (take (k + 1) packets)
 bytes_more k total packets captured bytes inside at is so_far =
-    let more = sum_by_more (λ (c : Captured). length c.bytes) packets k captured inside in
-    let here = ap (λ (c : Captured). length c.bytes) at in
+    let more = sum_by_more received_extent packets k captured inside in
+    let here = ap received_extent at in
     let size = ap length is in
     omega (arith, more, here, size, so_far)
 
 -- all of them
-pub bytes_all : (k : ℕ) (packets : List Captured) → length packets ≤ k → captured_bytes (take k packets) ≡ captured_bytes packets
-bytes_all k packets past = ap captured_bytes (take_all k packets past)
+pub bytes_all : (k : ℕ) (packets : List Captured) → length packets ≤ k → captured_extent (take k packets) ≡ captured_extent packets
+bytes_all k packets past = ap captured_extent (take_all k packets past)

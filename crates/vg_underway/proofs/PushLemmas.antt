@@ -39,7 +39,8 @@ sum_none : (n : ℕ) → ◌≡◌ {A = ℕ} (sum_by (λ (k : ℕ). 0) (below n)
 sum_none zero = refl
 sum_none (suc n) = let rest = sum_none n in omega (arith, rest, sum_by-append (λ (k : ℕ). 0) (below n) (n ∷ []), sum_by-cons (λ (k : ℕ). 0) n [])
 
-pub pushes_then : (workers slots : ℕ) (lossless : Bool) (pa pb pc : List (List HandoffFrame)) (oa ob oc : List Outlet) (la lb lc : List Fate) {first second : List Settled} → PushesFrames workers slots lossless pa oa la pb ob lb first → PushesFrames workers slots lossless pb ob lb pc oc lc second
+pub pushes_then : (workers slots : ℕ) (lossless : Bool) (pa pb pc : List (List HandoffFrame)) (oa ob oc : List Outlet) (la lb lc : List Fate) {first second : List Settled}
+    → PushesFrames workers slots lossless pa oa la pb ob lb first → PushesFrames workers slots lossless pb ob lb pc oc lc second
     → PushesFrames workers slots lossless pa oa la pc oc lc (first ++ second)
 pushes_then workers slots lossless pa pb pc oa ob oc la lb lc {first} {second} one two = record {
   pushes = λ to. one.pushes to ++ two.pushes to;
@@ -121,7 +122,8 @@ uncounted count (f ∷ fs) all =
     omega (arith, rest, one, sum_by-cons (if_congested count) f fs)
 
 -- a stretch in which nothing is pushed, and no fate with a count is logged
-pub pushes_none : (workers slots : ℕ) (lossless : Bool) (put : List (List HandoffFrame)) (outlets : List Outlet) (log more new_log : List Fate) (settled : List Settled) → new_log ≡ log ++ more → AllByRecursion (λ (fate : Fate). fate.congested ≡ None) more → AllByRecursion EndsHere settled
+pub pushes_none : (workers slots : ℕ) (lossless : Bool) (put : List (List HandoffFrame)) (outlets : List Outlet) (log more new_log : List Fate) (settled : List Settled)
+    → new_log ≡ log ++ more → AllByRecursion (λ (fate : Fate). fate.congested ≡ None) more → AllByRecursion EndsHere settled
     → PushesFrames workers slots lossless put outlets log put outlets new_log settled
 pushes_none workers slots lossless put outlets log more new_log settled is none here = record {
   pushes = λ to. [];

@@ -15,7 +15,7 @@ use Rattle.vg_model.specs.Count.{is_drop, is_sent_on}
 use Rattle.vg_model.specs.Graph.{Graph, kind_at}
 use Rattle.vg_model.specs.Valid.{IsTarget}
 use Rattle.vg_model.specs.Leg.{Onward, Over}
-use Rattle.vg_pool.specs.Contents.{Contents, AreContents, nothing}
+use Rattle.vg_pool.specs.Contents.{Contents, AreContents}
 use Rattle.vg_frame.specs.Pending.{pending_at, pending_count}
 use Rattle.vg_frame.specs.Placed.{buffer_at, count}
 use Rattle.vg_frame.proofs.PendingLemmas.{pending_count-put}
@@ -25,7 +25,7 @@ use Rattle.vg_underway.specs.SentEntries.{sent_by}
 use Rattle.vg_underway.specs.declared.underway.Work.{Work}
 use Rattle.vg_journeys.specs.Ended.{Ended, fate_of, sent_of, drop_visits}
 use Rattle.vg_journeys.specs.Turns.{settled_log, settled_visits}
-use Rattle.vg_underway.specs.Underway.{Setting, IsSetting, owed, moved, move_owed, contents_at, live_at, waiting, in_hand, counts_from}
+use Rattle.vg_underway.specs.Underway.{Setting, IsSetting, owed, moved, move_owed, contents_at, live_at, waiting, in_hand, counts_from, nothing}
 use Rattle.vg_underway.specs.Places.{same_one, times_waiting, times_in_hand}
 use Rattle.vg_underway.specs.Works.{IsHeld, IsSteady, Advances, Finishes, CanCount, EndsHere, IsRightlyRefused, outcome_of, ended_with, settled_with}
 use Rattle.vg_underway.proofs.SumLemmas.{sum_from_put, same_one_other}
@@ -113,7 +113,15 @@ put_steady s node w p rest to ok steady target e =
 
 -- nothing is a packet that may be
 pub nothing_sound : AreContents nothing
-nothing_sound = record { packet = record { bytes = tt; sound = λ e. cc }; fits = omega arith; few_legs = omega arith }
+nothing_sound = record {
+  packet = record { bytes = tt; sound = λ e. cc };
+  some = omega arith;
+  few = omega arith;
+  room = omega arith;
+  len = omega arith;
+  fits = omega arith;
+  few_legs = omega arith;
+}
 
 finish_held : (s : Setting) (node : ℕ) (w new : Work) (p : ℕ × Step) (rest : List (ℕ × Step)) (end : End) → IsHeld s node w (p ∷ rest) → CanCount end w.counts → Finishes p.0 end w new → IsHeld s node new rest
 finish_held s node w new p rest end held can f =

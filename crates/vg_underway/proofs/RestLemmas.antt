@@ -24,8 +24,8 @@ use Rattle.vg_counters.specs.Notes.{nodes_of, nothing_noted}
 use Rattle.vg_counters.specs.Tally.{Tally, IsWhole, count_of_errors, drops_at}
 use Rattle.vg_journeys.specs.Chains.{count_some}
 use Rattle.vg_journeys.specs.Ended.{Ended, ended_by, counted_visits, drop_visits}
-use Rattle.vg_journeys.specs.Trips.{Arrival, worker_of, logged_by, IsInTime}
-use Rattle.vg_journeys.specs.Accounts.{Account, HandoffFrame, came, is_drawn}
+use Rattle.vg_journeys.specs.Trips.{Arrival, worker_of, logged_by, IsInTime, pieces_before}
+use Rattle.vg_journeys.specs.Accounts.{Account, HandoffFrame, came, drawn_pieces}
 use Rattle.vg_journeys.specs.Turns.{Settled, settled_log, settled_sent, settled_noted, arrival_is_of, IsSoundArrival, ComesFrom, MayArrive, IsTurn}
 use Rattle.vg_underway.specs.declared.underway.Work.{Work}
 use Rattle.vg_underway.specs.declared.sent.SentEntry.{SentEntry}
@@ -36,7 +36,7 @@ use Rattle.vg_underway.specs.Places.{same_one, times_waiting}
 use Rattle.vg_underway.specs.Traced.{IsTraced, IsNotes, arrival_nodes, arrival_notes, seen, with_refusals}
 use Rattle.vg_underway.specs.Works.{total, IsHeld, Advances, Exchanges, sent_bytes_of, sent_len, ends_of, refused_visits, logged_count, by_bytes, by_visits}
 use Rattle.vg_underway.specs.Hands.{Delivers, IsDispatched}
-use Rattle.vg_underway.specs.Draws.{IsReady, IsEntered, IsUnderway, arrival_bytes}
+use Rattle.vg_underway.specs.Draws.{IsReady, IsEntered, IsUnderway, arrivals_extent}
 use Rattle.vg_underway.specs.Rest.{IsAtRest, IsNew}
 use Rattle.vg_underway.proofs.SumLemmas.{sum_from_none, sum_by_same, sum_by_none, counts_from_none, counts_from_at}
 use Rattle.vg_underway.proofs.WorkLemmas.{total_of, fates_grow, advances_then, advances_of, exchanges_then, refused_none, refused_most, logged_most, logged_of}
@@ -165,7 +165,7 @@ sent_weight (x ∷ xs) =
 
 -- at rest again
 pub rest_after : {told : List Settled → Type 0} (s : Setting) (slots : ℕ) (lossless : Bool) (packets bytes came own left n drawn weight new_left : ℕ) (arrivals : List Arrival) (old new : Work) (old_cache new_cache : CacheBook) (old_put new_put : List (List HandoffFrame)) → IsSetting s
-    → IsAtRest packets bytes came own left old → length arrivals ≡ n → arrival_bytes arrivals ≤ weight → drawn ≤ own → came + n + (own - drawn) ≤ 4 * packets → length old.fates.items + n + (own - drawn) ≤ packets
+    → IsAtRest packets bytes came own left old → length arrivals ≡ n → arrivals_extent arrivals ≤ weight → drawn ≤ own → came + n + (own - drawn) ≤ 4 * packets → length old.fates.items + n + (own - drawn) ≤ packets
     → vec_len old.bytes + weight + new_left ≤ bytes → IsOver s slots lossless told arrivals old old_cache old_put new new_cache new_put → IsAtRest packets bytes (came + n) (own - drawn) new_left new
 rest_after s slots lossless packets bytes came own left n drawn weight new_left arrivals old new old_cache new_cache old_put new_put ok rest size heavy part came_few within fits over =
     let a = over.advances in
@@ -221,9 +221,9 @@ rest_after s slots lossless packets bytes came own left n drawn weight new_left 
     }
 
 -- at rest there is room for packets that come
-pub ready_of : (packets bytes came own left : ℕ) (arrivals : List Arrival) (w : Work) (cache : CacheBook) → IsAtRest packets bytes came own left w → length arrivals ≤ 2304 → length w.fates.items + length arrivals ≤ packets → vec_len w.bytes + arrival_bytes arrivals ≤ bytes
-    → sum_by is_drawn arrivals ≤ cache.len → cache.len + length arrivals ≤ most_cached + sum_by is_drawn arrivals → cache.allocated < 2 ^ 61 → cache.freed < 2 ^ 61 → IsReady arrivals w cache
-ready_of packets bytes came own left arrivals w cache rest few within fits buffers cached allocated freed =
+pub ready_of : (packets bytes came own left : ℕ) (arrivals : List Arrival) (w : Work) (cache : CacheBook) → IsAtRest packets bytes came own left w → length arrivals ≤ 2304 → length w.fates.items + length arrivals ≤ packets → vec_len w.bytes + arrivals_extent arrivals ≤ bytes
+    → cache.len + sum_by pieces_before arrivals ≤ most_cached + sum_by drawn_pieces arrivals → cache.allocated < 2 ^ 61 → cache.freed < 2 ^ 61 → IsReady arrivals w cache
+ready_of packets bytes came own left arrivals w cache rest few within fits cached allocated freed =
     let few_packets = rest.few in
     let came_few = rest.came_few in
     record {
@@ -242,7 +242,6 @@ ready_of packets bytes came own left arrivals w cache rest few within fits buffe
       can_visit = λ node. (let most_of = rest.visited node in omega (arith, few, most_of, came_few, few_packets));
       can_drop = λ node error. (let most_of = rest.dropped node error in omega (arith, few, most_of, came_few, few_packets));
       can_send = λ interface. (let most_of = rest.sent interface in omega (arith, few, most_of, came_few, few_packets));
-      buffers = buffers;
       cached = cached;
       allocated = allocated;
       freed = freed;
@@ -250,17 +249,17 @@ ready_of packets bytes came own left arrivals w cache rest few within fits buffe
     }
 
 -- what a packet's leg adds
-pub count_end : (s : Setting) (f : Ended → ℕ) (e : Arrival) → arrival_owed s (record { visits = λ n. 0; ends = f }) e ≡ count_some f (option_map (ended_by (legs_at s e)) (arrival_way s e))
+pub count_end : (s : Setting) (f : Ended → ℕ) (e : Arrival) → arrival_owed s (record { visits = λ n. 0; ends = f }) e ≡ count_some f (option_map (ended_by (legs_at s e) (pieces_before e)) (arrival_way s e))
 count_end s f e = by (arrival_way s e)
   where
-    by : (o : Option Way) → unwrap_or (option_map (way_weight (record { visits = λ n. 0; ends = f }) (legs_at s e)) o) 0 ≡ count_some f (option_map (ended_by (legs_at s e)) o)
+    by : (o : Option Way) → unwrap_or (option_map (way_weight (record { visits = λ n. 0; ends = f }) (legs_at s e) (pieces_before e)) o) 0 ≡ count_some f (option_map (ended_by (legs_at s e) (pieces_before e)) o)
     by None = refl
     by (Some way) = omega (arith, sum_by_none way.visits, sum_by_none (drop_visits way.outcome))
 
 pub count_visits : (s : Setting) (node : ℕ) (e : Arrival) → arrival_owed s (by_visits node) e ≡ count_by (λ n. n == node) (arrival_nodes s e)
 count_visits s node e = by (arrival_way s e)
   where
-    by : (o : Option Way) → unwrap_or (option_map (way_weight (by_visits node) (legs_at s e)) o) 0 ≡ count_by (λ n. n == node) (unwrap_or (option_map counted_visits o) [])
+    by : (o : Option Way) → unwrap_or (option_map (way_weight (by_visits node) (legs_at s e) (pieces_before e)) o) 0 ≡ count_by (λ n. n == node) (unwrap_or (option_map counted_visits o) [])
     by None = refl
     by (Some way) = omega (arith, sum_by-append (λ n. if n == node then 1 else 0) way.visits (drop_visits way.outcome))
 
@@ -310,7 +309,7 @@ turn_of s lossless graphs slots first packets mark new_mark taken put new_taken 
           let counted = all_counted s slots lossless t arrivals old new old_cache new_cache put new_put over in
           let c1 = counts_from_none 0 new.counts.visits in let c2 = counts_from_none 0 old.counts.visits in
           let none = refused_none over.settled in
-          let each = sum_by_same (arrival_owed s t) (λ e. count_some f (option_map (ended_by (legs_at s e)) (arrival_way s e))) arrivals (count_end s f) in
+          let each = sum_by_same (arrival_owed s t) (λ e. count_some f (option_map (ended_by (legs_at s e) (pieces_before e)) (arrival_way s e))) arrivals (count_end s f) in
           let ends = sum_ends f over.settled in
           omega (arith, counted, c1, c2, none, each, ends);
       may_be = a.may_be;

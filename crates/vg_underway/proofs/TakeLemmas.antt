@@ -34,12 +34,12 @@ can_take s worker frame done rest c start w cache ok from split entered =
 
 pub taken_more : (s : Setting) (worker : ℕ) (frame : HandoffFrame) (done rest : List Contents) (c : Contents) (leg : Leg) (node : ℕ) (start w new : Work) (cache : CacheBook) → IsSetting s → (from : IsUnderway s (frame_arrivals worker frame) start cache)
     → frame.packets ≡ done ++ c ∷ rest → IsEntered s (from.before ++ map (Taken worker frame.node) done) from.start from.start_cache w cache → IsHandoff s.graph frame.node → node ≡ frame.node → leg ≡ leg_here s
-    → IsHanded frame.generation c → AreContents c → Enters s.graph handoff_dequeue node (record { packet = c.packet; legs = c.legs ++ leg ∷ [] }) w new
+    → IsHanded frame.generation c → AreContents c → Enters s.graph handoff_dequeue node (record c { legs = c.legs ++ leg ∷ [] }) w new
     → IsEntered s (from.before ++ map (Taken worker frame.node) (done ++ c ∷ [])) from.start from.start_cache new cache
 taken_more s worker frame done rest c leg node start w new cache ok from split entered hands node_is leg_is handed sound enters =
     let so_far : List Arrival = from.before ++ map (Taken worker frame.node) done in
     let e : Arrival = Taken worker frame.node c in
-    let with : Leg → Contents = λ l. record { packet = c.packet; legs = c.legs ++ l ∷ [] } in
+    let with : Leg → Contents = λ l. record c { legs = c.legs ++ l ∷ [] } in
     let one : Enters s.graph handoff_dequeue frame.node (with leg) w new = subst (λ n. Enters s.graph handoff_dequeue n (with leg) w new) node_is enters in
     let there : Enters s.graph handoff_dequeue frame.node (with (leg_here s)) w new = subst (λ l. Enters s.graph handoff_dequeue frame.node (with l) w new) leg_is one in
     let can = can_take s worker frame done rest c start w cache ok from split entered in
@@ -47,4 +47,4 @@ taken_more s worker frame done rest c leg node start w new cache ok from split e
     subst (λ es. IsEntered s es from.start from.start_cache new cache)
     (append_assoc from.before (map (Taken worker frame.node) done) (e ∷ []) ∙ ap (λ es. from.before ++ es) (sym (map-append (Taken worker frame.node) done (c ∷ []))))
     (more_entered s so_far e handoff_dequeue frame.node (with (leg_here s)) from.start w new from.start_cache cache cache ok can
-    (arrives_taken s worker frame.node c ok (sound.packet, handed.few, sound.fits) hands) there exchange entered)
+    (arrives_taken s worker frame.node c ok sound handed.few hands) there exchange entered)

@@ -9,7 +9,7 @@ use Rattle.std.proofs.lemmas.Bool.{cases_eq}
 use Rattle.vg_model.specs.declared.kinds.Step.{Step}
 use Rattle.vg_model.specs.declared.fates.End.{End}
 use Rattle.vg_model.specs.Leg.{Onward, Over}
-use Rattle.vg_pool.specs.Contents.{Contents, nothing}
+use Rattle.vg_pool.specs.Contents.{Contents}
 use Rattle.vg_frame.specs.Pending.{pending_at, IsNothingPending}
 use Rattle.vg_frame.specs.Placed.{buffer_at, Changes, IsLive}
 use Rattle.vg_counters.specs.Notes.{Notes, nodes_of, most_noted}
@@ -17,7 +17,7 @@ use Rattle.vg_underway.specs.declared.underway.Work.{Work}
 use Rattle.vg_journeys.specs.Ended.{drop_visits}
 use Rattle.vg_journeys.specs.Trips.{Arrival}
 use Rattle.vg_journeys.specs.Turns.{Settled, settled_visits, settled_noted}
-use Rattle.vg_underway.specs.Underway.{Setting, moved, contents_at, live_at, sum_from}
+use Rattle.vg_underway.specs.Underway.{Setting, moved, contents_at, live_at, sum_from, nothing}
 use Rattle.vg_underway.specs.Places.{same_one, times_waiting, times_in_hand}
 use Rattle.vg_underway.specs.Traced.{Sight, IsSeen, seen, with_refusals, StayTraced, leg_place, nodes_noted, visits_to_come, visits_after, IsOnWay, IsNotes, IsTraced, noted_end}
 use Rattle.vg_underway.specs.Works.{IsHeld, Finishes, outcome_of, settled_with}

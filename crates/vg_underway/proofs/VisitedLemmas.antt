@@ -13,7 +13,7 @@ use Rattle.vg_model.specs.Leg.{Way, Move, Onward, Over, joined}
 use Rattle.vg_model.specs.Leg as legs
 use Rattle.vg_model.proofs.LegLemmas.{leg_step}
 use Rattle.vg_model.proofs.LegEnds.{leg_some}
-use Rattle.vg_pool.specs.Contents.{Contents, AreContents, nothing}
+use Rattle.vg_pool.specs.Contents.{Contents, AreContents}
 use Rattle.vg_frame.specs.Pending.{frame_size, pending_at, TakesFrame}
 use Rattle.vg_frame.specs.Placed.{buffer_at, IsLive}
 use Rattle.vg_counters.specs.Notes.{Notes, nodes_of, noted, most_noted}
@@ -22,7 +22,7 @@ use Rattle.vg_nodes.specs.declared.sorted.Sorted.{Sorted}
 use Rattle.vg_nodes.specs.Dispatch.{after_visit, IsSortedBy, IsVisitedBy}
 use Rattle.vg_underway.specs.declared.underway.Work.{Work}
 use Rattle.vg_journeys.specs.Ended.{counted_visits}
-use Rattle.vg_underway.specs.Underway.{Setting, IsSetting, leg_of, after_at, moved, move_at, contents_at, live_at, sum_from}
+use Rattle.vg_underway.specs.Underway.{Setting, IsSetting, leg_of, after_at, moved, move_at, contents_at, live_at, sum_from, nothing}
 use Rattle.vg_underway.specs.Places.{same_one, times_waiting}
 use Rattle.vg_underway.specs.Traced.{Sight, IsSeen, leg_place, nodes_noted, visits_to_come, visits_after, IsOnWay, IsNotes, IsTraced, noted_frame}
 use Rattle.vg_underway.specs.Works.{hand_of, IsHeld}

@@ -12,17 +12,18 @@ use Rattle.vg_model.specs.Graph.{error_drop}
 use Rattle.vg_model.specs.Leg.{Outcome, Sent, Dropped, Handed}
 use Rattle.vg_model.specs.Count.{is_drop, is_sent_on}
 use Rattle.vg_model.specs.PoolBook.{CacheBook}
-use Rattle.vg_pool.specs.Contents.{Contents, nothing}
+use Rattle.vg_pool.specs.Contents.{Contents}
 use Rattle.vg_frame.specs.Placed.{buffer_at, count, IsLive}
 use Rattle.vg_underway.specs.declared.underway.Work.{Work}
 use Rattle.vg_journeys.specs.Ended.{Ended}
 use Rattle.vg_journeys.specs.Trips.{Arrival, last_generation}
-use Rattle.vg_journeys.specs.Turns.{Settled, settled_log, settled_sent, settled_visits, refusal_visits}
-use Rattle.vg_journeys.specs.Accounts.{is_drawn}
+use Rattle.vg_journeys.specs.Turns.{Settled, settled_log, settled_sent, settled_pieces, settled_visits, refusal_visits}
+use Rattle.vg_journeys.specs.Chains.{count_some}
+use Rattle.vg_journeys.specs.Accounts.{drawn_pieces}
 use Rattle.vg_underway.specs.SentEntries.{sent_by}
-use Rattle.vg_underway.specs.Underway.{Setting, Weights, owed, moved, move_owed, contents_at, live_at, waiting, in_hand, arrival_owed, counts_from}
+use Rattle.vg_underway.specs.Underway.{Setting, Weights, owed, moved, move_owed, contents_at, live_at, waiting, in_hand, arrival_owed, counts_from, nothing}
 use Rattle.vg_underway.specs.Places.{same_one, times_waiting, times_in_hand}
-use Rattle.vg_underway.specs.Works.{total, IsHeld, HasRoom, Advances, Exchanges, TakesAll, IsRightlyRefused, ends_of, refused_visits, logged_count, sent_len, by_bytes, by_visits}
+use Rattle.vg_underway.specs.Works.{total, IsHeld, HasRoom, Advances, Exchanges, TakesAll, IsRightlyRefused, ends_of, refused_visits, logged_count, sent_len, by_bytes, by_pieces, by_visits, pieces_held}
 use Rattle.vg_underway.proofs.SumLemmas.{sum_from_kept, sum_by_kept, sum_by_none, same_one_self, counts_from_none}
 
 -- what is live, and how often at most
@@ -235,8 +236,8 @@ exchanges_none cache = record { len = refl; freed = omega arith; allocated = ome
 
 pub exchanges_then : (p1 p2 : List Arrival) (s1 s2 : List Settled) (x y z : CacheBook) → Exchanges p1 s1 x y → Exchanges p2 s2 y z → Exchanges (p1 ++ p2) (s1 ++ s2) x z
 exchanges_then p1 p2 s1 s2 x y z one two =
-    let drawn = sum_by-append is_drawn p1 p2 in
-    let logged = ap length (filter_map-append settled_log s1 s2) ∙ length-append (filter_map settled_log s1) (filter_map settled_log s2) in
+    let drawn = sum_by-append drawn_pieces p1 p2 in
+    let logged = sum_by-append settled_pieces s1 s2 in
     record {
       len = (let e1 = one.len in let e2 = two.len in omega (arith, e1, e2, drawn, logged));
       freed = (let e1 = one.freed in let e2 = two.freed in omega (arith, e1, e2, logged));
@@ -245,12 +246,38 @@ exchanges_then p1 p2 s1 s2 x y z one two =
       given = two.given ∙ one.given;
     }
 
-pub takes_kept : (settled : List Settled) (a b : Work) (x y : CacheBook) → TakesAll a x → count b.memory + length settled ≡ count a.memory → Exchanges [] settled x y → TakesAll b y
-takes_kept settled a b x y takes live e =
-    let most = logged_most settled in
+-- no more buffers come back of packets that were settled than their chains have
+pub settled_pieces_most : (settled : List Settled) → sum_by settled_pieces settled ≤ sum_by by_pieces.ends (ends_of settled)
+settled_pieces_most [] = omega arith
+settled_pieces_most (x ∷ xs) =
+    let rest = settled_pieces_most xs in
+    let one = some_or_none x.ended.contents.pieces (settled_log x) in
+    omega (arith, rest, one, sum_by-cons settled_pieces x xs, sum_by-cons by_pieces.ends x.ended (ends_of xs))
+  where
+    some_or_none : (n : ℕ) (o : Option Fate) → count_some (λ (f : Fate). n) o ≤ n
+    some_or_none n None = omega arith
+    some_or_none n (Some f) = omega arith
+
+-- what is under way and what came back are together no more than what was under way
+pub pieces_kept : (s : Setting) (node : ℕ) (settled : List Settled) (a b : Work) (ha hb : List (ℕ × Step)) → Advances s node [] settled a ha b hb
+    → pieces_held s node b hb + sum_by settled_pieces settled ≤ pieces_held s node a ha
+pieces_kept s node settled a b ha hb advances =
+    let same = advances.same by_pieces in
+    let t1 = total_of s by_pieces b (ends_of settled) in
+    let t2 = total_of s by_pieces a [] in
+    let c1 = counts_from_none 0 b.counts.visits in
+    let c2 = counts_from_none 0 a.counts.visits in
+    let none = refused_none settled in
+    let most = settled_pieces_most settled in
+    omega (arith, same, t1, t2, c1, c2, none, most)
+
+pub takes_kept : (s : Setting) (node : ℕ) (settled : List Settled) (a b : Work) (ha hb : List (ℕ × Step)) (x y : CacheBook) → TakesAll s node a ha x → Advances s node [] settled a ha b hb
+    → Exchanges [] settled x y → TakesAll s node b hb y
+takes_kept s node settled a b ha hb x y takes advances e =
+    let less = pieces_kept s node settled a b ha hb advances in
     record {
-      len = (let h = takes.len in let e1 = e.len in omega (arith, h, e1, live, most));
-      freed = (let h = takes.freed in let e1 = e.freed in omega (arith, h, e1, live, most));
+      len = (let h = takes.len in let e1 = e.len in omega (arith, h, e1, less));
+      freed = (let h = takes.freed in let e1 = e.freed in omega (arith, h, e1, less));
     }
 
 -- by other words for the packets that came

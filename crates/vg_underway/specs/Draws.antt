@@ -1,5 +1,5 @@
 -- How a worker draws packets of its capture.
-use Rattle.std.specs.Prelude.{◌≡◌, ℕ, zero, suc, ◌+◌, ◌*◌, ◌<◌, ◌≤◌, ◌^◌, List, [], ◌∷◌, ◌++◌, length, slice_index, slice_set, None, Some, vec_len, vec_capacity}
+use Rattle.std.specs.Prelude.{◌≡◌, ℕ, zero, suc, ◌+◌, ◌*◌, ◌<◌, ◌≤◌, ◌^◌, List, [], ◌∷◌, ◌++◌, length, slice_index, slice_index_or, slice_set, None, Some, nat_lt, vec_len, vec_capacity, if◌then◌else◌}
 use Rattle.std.specs.List.{sum_by, AllByRecursion, flat_map}
 use Rattle.vg_model.specs.declared.kinds.DropError.TheVariants.{TooLong}
 use Rattle.vg_model.specs.declared.kinds.HashKind.{HashKind}
@@ -8,19 +8,21 @@ use Rattle.vg_model.specs.declared.fates.Leg.{Leg}
 use Rattle.vg_model.specs.declared.fates.End.TheVariants.{Dropped}
 use Rattle.vg_model.specs.declared.fates.Fate.{Fate}
 use Rattle.vg_model.specs.Packet.{fresh}
+use Rattle.vg_model.specs.Valid.{extent}
 use Rattle.vg_model.specs.Graph.{Graph, arc, kind_at, pg_input}
 use Rattle.vg_model.specs.Leg.{first_slot}
-use Rattle.vg_model.specs.PoolBook.{CacheBook}
+use Rattle.vg_model.specs.Journey.{longest_packet}
+use Rattle.vg_model.specs.PoolBook.{CacheBook, pieces_of}
 use Rattle.vg_pool.specs.Moves.{most_cached}
 use Rattle.vg_frame.specs.Pending.{pending_at, pending_count, most_pending, IsNothingPending}
 use Rattle.vg_frame.specs.Placed.{buffer_at, count, most_placed, Changes, IsLive}
 use Rattle.vg_model.specs.Edit.{most_nodes, most_interfaces}
 use Rattle.vg_counters.specs.Tally.{Tally, IsWhole, more_at, drops_at}
 use Rattle.vg_pool.specs.Contents.{Contents}
-use Rattle.vg_journeys.specs.Trips.{Arrival, Drawn, Taken}
+use Rattle.vg_journeys.specs.Trips.{Arrival, Drawn, Taken, pieces_before}
 use Rattle.vg_journeys.specs.Turns.{Settled, IsSoundArrival, ComesFrom, arrival_is_of, settled_noted}
-use Rattle.vg_journeys.specs.Accounts.{is_drawn}
-use Rattle.vg_journeys.specs.Windows.{next_draws}
+use Rattle.vg_journeys.specs.Accounts.{drawn_pieces}
+use Rattle.vg_journeys.specs.Windows.{next_draws, mark_behind}
 use Rattle.vg_capture.specs.declared.captures.Captured.{Captured}
 use Rattle.vg_underway.specs.OwnPackets.{frames_of}
 use Rattle.vg_underway.specs.declared.underway.Work.{Work}
@@ -43,10 +45,9 @@ pub record CanEnter (first : ℕ) (w : Work) : Type 0 where
   pub memory : count w.memory < most_placed
   pub pending : pending_count w.pending < most_pending
 
--- and to draw it
-pub record CanDraw (w : Work) (cache : CacheBook) : Type 0 where
-  pub buffers : (0 < cache.len) × (cache.len ≤ most_cached)
-  pub allocated : cache.allocated < 2 ^ 62
+-- and to draw it, where its chain was taken out of the cache
+pub record CanDraw (pieces : ℕ) (w : Work) (cache : CacheBook) : Type 0 where
+  pub len : cache.len + pieces ≤ most_cached
   pub freed : cache.freed < 2 ^ 62
   pub fates : length w.fates.items < w.fates.room
   pub counts : CanCount (Dropped pg_input TooLong) (with_source w.counts)
@@ -56,7 +57,7 @@ pub record CanDraw (w : Work) (cache : CacheBook) : Type 0 where
 abbrev pub too_long : ℕ → Leg → Fate
 too_long number leg = record { number = number; legs = leg ∷ []; congested = None; end = Dropped pg_input TooLong }
 
--- a packet that is too long is dropped as it is drawn, and its buffer is given back
+-- a packet that is too long is dropped as it is drawn, and its one buffer is given back
 pub record DrawsLong (leg : Leg) (number : ℕ) (old new : Work) (old_cache new_cache : CacheBook) : Type 0 where
   pub fates : new.fates.items ≡ old.fates.items ++ too_long number leg ∷ []
   pub room : new.fates.room ≡ old.fates.room
@@ -65,7 +66,7 @@ pub record DrawsLong (leg : Leg) (number : ℕ) (old new : Work) (old_cache new_
     counts = counted_end (Dropped pg_input TooLong) (with_source old.counts);
     trace = noted_end number 0 (Dropped pg_input TooLong) (noted number 0 pg_input old.trace);
   }
-  pub cache : new_cache ≡ record old_cache { allocated = old_cache.allocated + 1; freed = old_cache.freed + 1 }
+  pub cache : new_cache ≡ record old_cache { len = old_cache.len + 1; freed = old_cache.freed + 1 }
 
 -- a packet is placed in a buffer, with a visit of one node, and waits for the node to which the first slot of another leads
 pub record Enters (g : Graph) (first via : ℕ) (c : Contents) (old new : Work) : Type 0 where
@@ -84,21 +85,34 @@ pub record Enters (g : Graph) (first via : ℕ) (c : Contents) (old new : Work) 
 
 -- a packet that isn't too long is drawn
 pub record DrawsShort (g : Graph) (leg : Leg) (number : ℕ) (bytes : List ℕ) (old new : Work) (old_cache new_cache : CacheBook) : Type 0 where
-  pub enters : Enters g pg_input pg_input (record { packet = fresh number bytes; legs = leg ∷ [] }) old new
-  pub len : new_cache.len + 1 ≡ old_cache.len
-  pub cache : new_cache ≡ record old_cache { len = new_cache.len; allocated = old_cache.allocated + 1 }
+  pub enters : Enters g pg_input pg_input (record { packet = fresh number bytes; legs = leg ∷ []; pieces = pieces_of (length bytes) }) old new
+  pub cache : new_cache ≡ old_cache
 
 -- a node that hands packets over to other workers
 abbrev pub IsHandoff : Graph → ℕ → Type 0
 IsHandoff g node = (hash : HashKind) × (kind_at g node ≡ Some (kinds.WorkerHandoff hash))
 
--- the bytes of packets that come
-abbrev pub arrival_len : Arrival → ℕ
-arrival_len (Drawn number bytes) = length bytes
-arrival_len (Taken worker node c) = length c.packet.bytes
+-- the buffers that a packet has once it is drawn: none where it is too long, since it is dropped as it is drawn
+abbrev pub kept_pieces : Arrival → ℕ
+kept_pieces (Drawn number bytes) = if nat_lt longest_packet (length bytes) then 0 else pieces_of (length bytes)
+kept_pieces (Taken worker node c) = c.pieces
 
-abbrev pub arrival_bytes : List Arrival → ℕ
-arrival_bytes arrivals = sum_by arrival_len arrivals
+-- the packet of this number takes more buffers than a cache has
+abbrev pub LacksBuffers : (packets : List (List ℕ)) (number cached : ℕ) → Type 0
+LacksBuffers packets number cached = cached < pieces_of (length (slice_index_or packets number []))
+
+-- So many packets, from a mark on, are drawn out of a cache of so many buffers: it has the buffers of each, and afterwards what is left.
+pub record AreChained (workers mark count : ℕ) (packets : List (List ℕ)) (cached left : ℕ) : Type 0 where
+  pub each : (k : ℕ) → k < count → sum_by kept_pieces (next_draws workers mark k packets) + pieces_of (length (slice_index_or packets (mark_behind workers mark k) [])) ≤ cached
+  pub left_is : left + sum_by kept_pieces (next_draws workers mark count packets) ≡ cached
+
+-- how long packets that come and their rooms are together: their leg makes that no more, so no more bytes of them are sent
+abbrev pub arrival_extent : Arrival → ℕ
+arrival_extent (Drawn number bytes) = extent (fresh number bytes)
+arrival_extent (Taken worker node c) = extent c.packet
+
+abbrev pub arrivals_extent : List Arrival → ℕ
+arrivals_extent arrivals = sum_by arrival_extent arrivals
 
 -- no packet counts more visits than the nodes, the node with which its leg begins, and that which drops, for its leg and for a refusal
 abbrev pub most_visits : ℕ
@@ -121,13 +135,12 @@ pub record IsReady (arrivals : List Arrival) (w : Work) (cache : CacheBook) : Ty
   pub few : length arrivals ≤ most_arrivals
   pub fates : length w.fates.items + length arrivals ≤ w.fates.room
   pub entries_room : vec_len w.entries + length arrivals ≤ vec_capacity w.entries
-  pub bytes : vec_len w.bytes + arrival_bytes arrivals ≤ vec_capacity w.bytes
+  pub bytes : vec_len w.bytes + arrivals_extent arrivals ≤ vec_capacity w.bytes
   pub can_visit : (node : ℕ) → slice_index w.counts.visits node + most_visits * length arrivals < 2 ^ 61
   pub can_drop : (node error : ℕ) → drops_at node error w.counts.drops + length arrivals < 2 ^ 61
   pub can_send : (interface : ℕ) → slice_index w.counts.sends interface + length arrivals < 2 ^ 61
-  -- buffers for those that are drawn, and room in the cache for those of the others
-  pub buffers : sum_by is_drawn arrivals ≤ cache.len
-  pub cached : cache.len + length arrivals ≤ most_cached + sum_by is_drawn arrivals
+  -- room in the cache for the buffers of those that were handed over
+  pub cached : cache.len + sum_by pieces_before arrivals ≤ most_cached + sum_by drawn_pieces arrivals
   pub allocated : cache.allocated < 2 ^ 61
   pub freed : cache.freed < 2 ^ 61
   pub is_notes : IsNotes w.trace

@@ -30,12 +30,16 @@ handed_to to indexes = map (λ index. (index, Hand to)) indexes
 abbrev pub HasFewLegs : List (Option Contents) → ℕ → Type 0
 HasFewLegs memory index = IsLive memory index → length (contents_at memory index).legs ≤ 3
 
+-- the buffers of these packets' chains
+abbrev pub all_chains : List Contents → ℕ
+all_chains cs = sum_by (λ (c : Contents). c.pieces) cs
+
 -- all that it takes to drop a packet that a queue refused
 pub record CanRefuse (node : ℕ) (c : Contents) (w : Work) (cache : CacheBook) : Type 0 where
   pub legs : (1 ≤ length c.legs) × (length c.legs ≤ 4)
   pub fates : length w.fates.items < w.fates.room
   pub counts : CanCount (Dropped node Congestion) w.counts
-  pub len : cache.len < most_cached
+  pub len : cache.len + c.pieces ≤ most_cached
   pub freed : cache.freed < 2 ^ 62
 
 -- what is logged of it
@@ -56,7 +60,7 @@ pub record Refuses (node accepted : ℕ) (c : Contents) (old new : Work) : Type 
 -- frames that queue had accepted
 pub record HandsOver (s : Setting) (node to slots : ℕ) (lossless : Bool) (old : Work) (old_cache : CacheBook) (old_put : List HandoffFrame) (old_hand : List (ℕ × Step)) (new : Work) (new_cache : CacheBook) (new_put : List HandoffFrame) (new_hand : List (ℕ × Step)) : Type 0 where
   pub steady : IsSteady s node new new_hand
-  pub takes : TakesAll new new_cache
+  pub takes : TakesAll s node new new_hand new_cache
   pub settled : List Settled
   pub advances : Advances s node [] settled old old_hand new new_hand
   pub exchanges : Exchanges [] settled old_cache new_cache
@@ -109,7 +113,7 @@ pub record Delivers (s : Setting) (slots : ℕ) (lossless : Bool) (settled : Lis
 pub record PutsAway (s : Setting) (node slots : ℕ) (lossless : Bool) (told : List Settled → Type 0) (old : Work) (old_cache : CacheBook) (old_put : List (List HandoffFrame)) (old_hand : List (ℕ × Step)) (new : Work)
     (new_cache : CacheBook) (new_put : List (List HandoffFrame)) (new_hand : List (ℕ × Step)) : Type 0 where
   pub steady : IsSteady s node new new_hand
-  pub takes : TakesAll new new_cache
+  pub takes : TakesAll s node new new_hand new_cache
   pub settled : List Settled
   pub advances : Advances s node [] settled old old_hand new new_hand
   pub exchanges : Exchanges [] settled old_cache new_cache
@@ -136,7 +140,7 @@ pub record CanHand (station : Station) (packets : ℕ) (accepted : List (List Ha
 -- frames were dispatched, and this is told of the packets that were settled
 pub record IsDispatched (s : Setting) (slots : ℕ) (lossless : Bool) (told : List Settled → Type 0) (old : Work) (old_cache : CacheBook) (old_put : List (List HandoffFrame)) (new : Work) (new_cache : CacheBook) (new_put : List (List HandoffFrame)) : Type 0 where
   pub steady : IsSteady s 0 new []
-  pub takes : TakesAll new new_cache
+  pub takes : TakesAll s 0 new [] new_cache
   pub settled : List Settled
   pub advances : Advances s 0 [] settled old [] new []
   pub exchanges : Exchanges [] settled old_cache new_cache

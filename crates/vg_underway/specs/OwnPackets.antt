@@ -1,11 +1,16 @@
 -- A worker's own packets, and what is counted of them.
-use Rattle.std.specs.Prelude.{ℕ, zero, suc, ◌-◌, List, [], ◌∷◌, length, map, drop}
+use Rattle.std.specs.Prelude.{ℕ, zero, suc, ◌+◌, ◌-◌, List, [], ◌∷◌, length, map, drop}
 use Rattle.std.specs.List.{sum_by}
+use Rattle.vg_model.specs.Packet.{first_room}
 use Rattle.vg_capture.specs.declared.captures.Captured.{Captured}
 
--- the bytes of captured packets
-abbrev pub captured_bytes : List Captured → ℕ
-captured_bytes packets = sum_by (λ (captured : Captured). length captured.bytes) packets
+-- how long a captured packet and the room that it is received with are together
+abbrev pub received_extent : Captured → ℕ
+received_extent captured = length captured.bytes + first_room
+
+-- so of all of them
+abbrev pub captured_extent : List Captured → ℕ
+captured_extent packets = sum_by received_extent packets
 
 -- of packets, the first behind so many, and then each as many behind the one before as there are workers
 abbrev pub every : {X : Type 0} → (workers skip : ℕ) → List X → List X

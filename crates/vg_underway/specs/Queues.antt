@@ -1,6 +1,7 @@
 -- What contracts see of the queue from another worker, and how a round takes a frame from it.
 use Rattle.std.specs.Prelude.{◌≡◌, ℕ, ◌+◌, List, [], ◌∷◌, length, Option, None, Some}
 use Rattle.std.specs.List.{sum_by}
+use Rattle.vg_model.specs.Valid.{extent}
 use Rattle.vg_pool.specs.Contents.{Contents}
 use Rattle.vg_steps.specs.Seated.{TableId}
 use Rattle.vg_steps.specs.Trails.{found}
@@ -48,13 +49,13 @@ Tries may old [] new = Leaves may old new.waits new.trail
 Tries may old (frame ∷ []) new = Comes old.waits old.taken old.trail frame new.trail × may frame × (new.waits ≡ None)
 Tries may old (frame ∷ next ∷ more) new = ⊥
 
--- the bytes of a frame's packets
-abbrev pub frame_bytes : HandoffFrame → ℕ
-frame_bytes frame = sum_by (λ (c : Contents). length c.packet.bytes) frame.packets
+-- how long a frame's packets and their rooms are together
+abbrev pub frame_extent : HandoffFrame → ℕ
+frame_extent frame = sum_by (λ (c : Contents). extent c.packet) frame.packets
 
--- the packets of frames, and their bytes
+-- the packets of frames, and how long they and their rooms are together
 abbrev pub packets_in : List HandoffFrame → ℕ
 packets_in frames = sum_by (λ (frame : HandoffFrame). length frame.packets) frames
 
-abbrev pub bytes_in : List HandoffFrame → ℕ
-bytes_in frames = sum_by frame_bytes frames
+abbrev pub extents_in : List HandoffFrame → ℕ
+extents_in frames = sum_by frame_extent frames

@@ -11,8 +11,8 @@ use Rattle.vg_underway.specs.declared.underway.Work.{Work}
 use Rattle.vg_underway.specs.SentEntries.{AreWithin, sent_by, sent_size}
 use Rattle.vg_underway.specs.Draws.{most_visits}
 
--- So many packets and captured bytes are run; so many packets came to the worker; so many of its own, with so many bytes, aren't drawn
--- yet. Nothing is under way; there is room for the fates and the bytes of all; and nothing is counted but for what came.
+-- So many packets are run, and so many bytes with their rooms; so many packets came to the worker; so many of its own, so long with
+-- their rooms, aren't drawn yet. Nothing is under way; there is room for the fates and the bytes of all; and nothing is counted but for what came.
 pub record IsAtRest (packets bytes came own left : ℕ) (w : Work) : Type 0 where
   pub nodes : length w.pending ≡ most_nodes
   pub none : IsNothingPending w.pending

@@ -8,10 +8,10 @@ use Rattle.vg_model.specs.Visit.{Visit}
 use Rattle.vg_model.specs.Valid.{IsValid, IsKindSet}
 use Rattle.vg_model.specs.Edit.{most_nodes, most_interfaces}
 use Rattle.vg_model.specs.Leg.{Way, Move, Onward, Over, move_of, leg}
-use Rattle.vg_pool.specs.Contents.{Contents, nothing}
+use Rattle.vg_pool.specs.Contents.{Contents, nothing as empty_chain}
 use Rattle.vg_frame.specs.Placed.{buffer_at}
 use Rattle.vg_journeys.specs.Ended.{Ended, ended_by, drop_visits}
-use Rattle.vg_journeys.specs.Trips.{Arrival, legs_before, arrival_leg}
+use Rattle.vg_journeys.specs.Trips.{Arrival, legs_before, pieces_before, arrival_leg}
 use Rattle.vg_underway.specs.declared.stations.Station.{Station}
 
 -- what a worker has through a round: the visits of the kinds, the graph and its generation, how many workers there are, its number
@@ -43,8 +43,8 @@ abbrev pub end_weight : Weights → Ended → ℕ
 end_weight t e = sum_by t.visits (drop_visits e.outcome) + t.ends e
 
 -- what a leg counts
-abbrev pub way_weight : Weights → List Leg → Way → ℕ
-way_weight t legs way = sum_by t.visits way.visits + end_weight t (ended_by legs way)
+abbrev pub way_weight : Weights → List Leg → (pieces : ℕ) → Way → ℕ
+way_weight t legs pieces way = sum_by t.visits way.visits + end_weight t (ended_by legs pieces way)
 
 -- the leg of a packet from a node on
 abbrev pub leg_of : Setting → ℕ → Contents → Option Way
@@ -52,7 +52,7 @@ leg_of s node c = leg s.visit s.graph s.workers s.worker (length c.legs) node c.
 
 -- what is still to be counted for a packet at a node: its whole leg from there
 abbrev pub owed : Setting → Weights → ℕ → Contents → ℕ
-owed s t node c = unwrap_or (option_map (way_weight t c.legs) (leg_of s node c)) 0
+owed s t node c = unwrap_or (option_map (way_weight t c.legs c.pieces) (leg_of s node c)) 0
 
 -- the leg of a packet that comes to the worker, its legs with this one, and what it counts
 abbrev pub arrival_way : Setting → Arrival → Option Way
@@ -65,11 +65,11 @@ abbrev pub legs_at : Setting → Arrival → List Leg
 legs_at s e = legs_before e ++ leg_here s ∷ []
 
 abbrev pub arrival_owed : Setting → Weights → Arrival → ℕ
-arrival_owed s t e = unwrap_or (option_map (way_weight t (legs_at s e)) (arrival_way s e)) 0
+arrival_owed s t e = unwrap_or (option_map (way_weight t (legs_at s e) (pieces_before e)) (arrival_way s e)) 0
 
--- the packet after a visit, with the same legs
+-- the packet after a visit, with the same legs and over the same chain
 abbrev pub after_at : Setting → ℕ → Contents → Contents
-after_at s node c = record { packet = (s.visit s.graph node c.packet).1; legs = c.legs }
+after_at s node c = record c { packet = (s.visit s.graph node c.packet).1 }
 
 -- where a packet goes after a step of a node
 abbrev pub moved : Setting → ℕ → Contents → Step → Move
@@ -94,6 +94,10 @@ sum_from f first (xs ∷ rest) = sum_by (f first) xs + sum_from f (suc first) re
 abbrev pub counts_from : (ℕ → ℕ) → ℕ → List ℕ → ℕ
 counts_from f first [] = 0
 counts_from f first (count ∷ rest) = f first * count + counts_from f (suc first) rest
+
+-- what stands for an index without a buffer
+abbrev pub nothing : Contents
+nothing = empty_chain 1
 
 -- what a memory has under an index
 abbrev pub contents_at : List (Option Contents) → ℕ → Contents

@@ -24,8 +24,8 @@ use Rattle.vg_underway.specs.declared.underway.Work.{Work}
 use Rattle.vg_model.specs.declared.fates.Fate.{Fate}
 use Rattle.vg_journeys.specs.Ended.{Ended, fate_of, sent_of}
 use Rattle.vg_journeys.specs.Trips.{Arrival, last_generation}
-use Rattle.vg_journeys.specs.Turns.{Settled, settled_log, settled_sent, settled_visits, MayBeRefused}
-use Rattle.vg_journeys.specs.Accounts.{is_drawn}
+use Rattle.vg_journeys.specs.Turns.{Settled, settled_log, settled_sent, settled_pieces, settled_visits, MayBeRefused}
+use Rattle.vg_journeys.specs.Accounts.{drawn_pieces}
 use Rattle.vg_underway.specs.SentEntries.{sent_by, AreWithin}
 use Rattle.vg_underway.specs.Underway.{Setting, Weights, counts_from, contents_at, live_at, waiting, in_hand, arrival_owed}
 use Rattle.vg_underway.specs.Places.{times_waiting, times_in_hand}
@@ -93,6 +93,10 @@ sent_len e = sent_bytes_of e.contents.packet.bytes e.outcome
 -- bytes that are sent
 abbrev pub by_bytes : Weights
 by_bytes = record { visits = λ node. 0; ends = sent_len }
+
+-- buffers of chains: each packet has its chain until its leg is over
+abbrev pub by_pieces : Weights
+by_pieces = record { visits = λ node. 0; ends = λ e. e.contents.pieces }
 
 -- visits of one node
 abbrev pub by_visits : ℕ → Weights
@@ -165,23 +169,27 @@ pub record Advances (s : Setting) (node : ℕ) (arrivals : List Arrival) (settle
   pub sends : (interface : ℕ) → slice_index new.counts.sends interface
       ≡ slice_index old.counts.sends interface + count_by (λ (f : Fate). is_sent_on interface f.end) (filter_map settled_log settled)
 
--- a cache gives a buffer for each packet drawn, and takes one back for each that is logged
+-- a cache gives the chain of each packet that is drawn, and takes back that of each that is logged
 pub record Exchanges (arrivals : List Arrival) (settled : List Settled) (old_cache new_cache : CacheBook) : Type 0 where
-  pub len : new_cache.len + sum_by is_drawn arrivals ≡ old_cache.len + logged_count settled
-  pub freed : new_cache.freed ≡ old_cache.freed + logged_count settled
-  pub allocated : new_cache.allocated ≡ old_cache.allocated + sum_by is_drawn arrivals
+  pub len : new_cache.len + sum_by drawn_pieces arrivals ≡ old_cache.len + sum_by settled_pieces settled
+  pub freed : new_cache.freed ≡ old_cache.freed + sum_by settled_pieces settled
+  pub allocated : new_cache.allocated ≡ old_cache.allocated + sum_by drawn_pieces arrivals
   pub taken : new_cache.taken ≡ old_cache.taken
   pub given : new_cache.given ≡ old_cache.given
 
+-- the buffers of the packets that are under way, some of which are in hand after a visit of this node
+abbrev pub pieces_held : Setting → ℕ → Work → List (ℕ × Step) → ℕ
+pieces_held s node w hand = waiting s by_pieces w.memory w.pending + in_hand s by_pieces node w.memory hand
+
 -- the cache can take all buffers of the worker
-pub record TakesAll (w : Work) (cache : CacheBook) : Type 0 where
-  pub len : cache.len + count w.memory ≤ most_cached
-  pub freed : cache.freed + count w.memory < 2 ^ 62
+pub record TakesAll (s : Setting) (node : ℕ) (w : Work) (hand : List (ℕ × Step)) (cache : CacheBook) : Type 0 where
+  pub len : cache.len + pieces_held s node w hand ≤ most_cached
+  pub freed : cache.freed + pieces_held s node w hand < 2 ^ 62
 
 -- packets that were in hand are put away, but for those that still are
 pub record IsPutAway (s : Setting) (node : ℕ) (old : Work) (old_cache : CacheBook) (old_hand : List (ℕ × Step)) (new : Work) (new_cache : CacheBook) (new_hand : List (ℕ × Step)) : Type 0 where
   pub steady : IsSteady s node new new_hand
-  pub takes : TakesAll new new_cache
+  pub takes : TakesAll s node new new_hand new_cache
   pub settled : List Settled
   pub advances : Advances s node [] settled old old_hand new new_hand
   pub exchanges : Exchanges [] settled old_cache new_cache
@@ -223,7 +231,7 @@ pub record CanFinish (index : ℕ) (end : End) (w : Work) (cache : CacheBook) : 
   pub bytes : vec_len w.bytes + sent_len (ended_with end (contents_at w.memory index)) ≤ vec_capacity w.bytes
   pub within : AreWithin w.entries.items w.bytes.items
   pub counts : CanCount end w.counts
-  pub len : cache.len < most_cached
+  pub len : cache.len + (contents_at w.memory index).pieces ≤ most_cached
   pub freed : cache.freed < 2 ^ 62
 
 -- the packet of this index is taken out with its end: it is logged and counted, and its bytes are kept where it is transmitted

@@ -6,9 +6,9 @@
 //! each other worker. What became of a packet is logged, counted by node, error and interface, and, where it was transmitted, its bytes
 //! are kept in a [`SentList`].
 //!
-//! What calls cost: [`Rooms::new`] takes all memory. A packet's bytes are copied into a buffer as it is drawn, and out of it where it is
-//! transmitted; between nodes only its index moves, and a packet that is handed over is its buffer moved. A node's visits are counted
-//! once a frame, and noted packet by packet only where packets are traced.
+//! What calls cost: [`Rooms::new`] takes all memory. A packet's bytes are copied into a chain of buffers as it is drawn, and out of it where
+//! it is transmitted; between nodes only its index moves, and to hand a packet over moves the one pointer to its chain. A node's visits are
+//! counted once a frame, and noted packet by packet only where packets are traced.
 #![tactic(auto)]
 
 pub mod counting;

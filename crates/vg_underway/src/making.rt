@@ -3,7 +3,7 @@ ghost use Rattle.std.specs.Prelude.{◌≡◌, ◌<◌, ◌≤◌, ◌^◌, [], 
 ghost use Rattle.std.specs.List.{AllByRecursion};
 ghost use Rattle.vg_nodes.specs.Sorting.{nothing_sorted};
 ghost use Rattle.vg_ring.specs.Ends.{taken, rx_ring, rx_trail};
-ghost use Rattle.vg_underway.specs.OwnPackets.{captured_bytes, own_from};
+ghost use Rattle.vg_underway.specs.OwnPackets.{captured_extent, own_from};
 ghost use Rattle.vg_underway.specs.Queues.{Queue, queue_of};
 ghost use Rattle.vg_underway.specs.Rest.{IsNew};
 
@@ -15,6 +15,7 @@ use vg_capture::Packets;
 use vg_frame::Frame;
 use vg_hands::{HandFrame, Handoff};
 use vg_model::Memory;
+use vg_model::limits::FIRST_ROOM;
 use vg_nodes::Sorted;
 use vg_ring::{RingRx, RingTx};
 
@@ -32,7 +33,7 @@ pub struct Rooms<H: Handoff<HandFrame>> {
 }
 
 impl<H: Handoff<HandFrame>> Rooms<H> {
-    /// The memory of one of so many workers, for so many packets with so many bytes, of which so many are traced.
+    /// The memory of one of so many workers, for so many packets, which send so many bytes at most and of which so many are traced.
     pub fn new(
         alloc: Global,
         workers: usize,
@@ -48,21 +49,11 @@ impl<H: Handoff<HandFrame>> Rooms<H> {
         ensures outputs { IfOk result (λ rooms. (rooms.outputs.items ≡ []) × (workers ≤ vec_capacity rooms.outputs)) }
         ensures ends { IfOk result (λ rooms. (rooms.rx_room.items ≡ []) × (workers ≤ vec_capacity rooms.rx_room) × (rooms.tx_room.items ≡ []) × (workers ≤ vec_capacity rooms.tx_room)) }
     {
-        let Ok(groups) = empty_groups(alloc, workers) else {
-            return Err(Memory);
-        };
-        let Ok(inputs) = Vec::with_capacity(alloc, workers) else {
-            return Err(Memory);
-        };
-        let Ok(outputs) = Vec::with_capacity(alloc, workers) else {
-            return Err(Memory);
-        };
-        let Ok(rx_room) = Vec::with_capacity(alloc, workers) else {
-            return Err(Memory);
-        };
-        let Ok(tx_room) = Vec::with_capacity(alloc, workers) else {
-            return Err(Memory);
-        };
+        let groups = empty_groups(alloc, workers)?;
+        let inputs = Vec::with_capacity(alloc, workers)?;
+        let outputs = Vec::with_capacity(alloc, workers)?;
+        let rx_room = Vec::with_capacity(alloc, workers)?;
+        let tx_room = Vec::with_capacity(alloc, workers)?;
         Ok(Rooms {
             work: Work::new(alloc, packets, bytes, traced)?,
             sorted: Sorted::new(alloc)?,
@@ -116,18 +107,19 @@ pub fn counting_of<H: Handoff<HandFrame>>(
     room
 }
 
-/// How many bytes the packets have; `None` where no number says it.
+/// How many bytes the packets and the rooms that they are received with have together; `None` where no number says it.
 pub fn total_bytes(packets: &Packets) -> Option<usize>
-    ensures { IfSome result (λ total. total ≡ captured_bytes packets.now) }
+    ensures { IfSome result (λ total. total ≡ captured_extent packets.now) }
 {
     let mut total: usize = 0;
     for place in 0..packets.len() {
-        total = total.checked_add(packets.bytes(place).len())?;
+        let extent = packets.bytes(place).len() + FIRST_ROOM;
+        total = total.checked_add(extent)?;
     }
     Some(total)
 }
 
-/// A worker's own packets: how many, and how many bytes they have.
+/// A worker's own packets: how many, and how many bytes they and their rooms have together.
 #[derive(Clone, Copy)]
 pub struct Own {
     pub count: u32,
@@ -138,16 +130,16 @@ pub struct Own {
 pub fn own_of(packets: &Packets, workers: u8, number: u8) -> Own
     requires workers { 0 < workers }
     requires few { length packets.now ≤ 65536 }
-    requires bytes { captured_bytes packets.now < 2 ^ 64 }
+    requires bytes { captured_extent packets.now < 2 ^ 64 }
     ensures count { result.count ≡ length (own_from workers number packets.now) }
-    ensures bytes { result.bytes ≡ captured_bytes (own_from workers number packets.now) }
+    ensures bytes { result.bytes ≡ captured_extent (own_from workers number packets.now) }
 {
     let mut own = Own { count: 0, bytes: 0 };
     let count = packets.len();
     let mut place = number as usize;
     'packets: while place < count {
         own.count += 1;
-        own.bytes += packets.bytes(place).len();
+        own.bytes += packets.bytes(place).len() + FIRST_ROOM;
         place += workers as usize;
     }
     own

@@ -22,7 +22,7 @@ pub struct SentEntry {
 
 /// The packets that were transmitted: the number and the bytes of each.
 ///
-/// The bytes of all of them stand in one buffer for each worker that sent some.
+/// The bytes of all of them stand in one list for each worker that sent some.
 #[derive(Drop)]
 pub struct SentList {
     entries: Vec<SentEntry>,
@@ -74,7 +74,7 @@ fn followed_by(
 impl SentList {
     ghost use Rattle.vg_underway.specs.SentEntries.{sent_by, AreWithin};
 
-    /// The packets with these entries, whose bytes stand in this buffer.
+    /// The packets with these entries, whose bytes stand in this list.
     pub fn new(entries: Vec<SentEntry>, bytes: Vec<u8>) -> SentList
         requires { AreWithin entries.items bytes.items }
         ensures { result ≡ sent_by entries.items bytes.items }
@@ -123,15 +123,9 @@ impl SentList {
         if parts > LAST_PART || other_more.len() > LAST_PART - parts {
             return Err(Memory);
         }
-        let Ok(()) = more.push(other_bytes) else {
-            return Err(Memory);
-        };
-        let Ok(()) = more.append(&mut other_more) else {
-            return Err(Memory);
-        };
-        let Ok(entries) = followed_by(entries, other_entries, parts as u16) else {
-            return Err(Memory);
-        };
+        more.push(other_bytes)?;
+        more.append(&mut other_more)?;
+        let entries = followed_by(entries, other_entries, parts as u16)?;
         Ok(SentList {
             entries,
             bytes,

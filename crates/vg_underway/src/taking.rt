@@ -19,17 +19,17 @@ use vg_nodes::KindSet;
 /// What bounds the frames that a worker takes.
 #[derive(Clone, Copy)]
 pub struct Bounds {
-    /// How many packets the capture has, and how many captured bytes.
+    /// How many packets the capture has, and how many bytes they and their rooms have together.
     pub packets: u32,
     pub bytes: usize,
-    /// How many of the worker's own packets aren't drawn yet, and how many captured bytes they have.
+    /// How many of the worker's own packets aren't drawn yet, and how many bytes they and their rooms have together.
     pub own: u32,
     pub left: usize,
     /// How many packets it has ever taken.
     pub taken: u32,
 }
 
-/// Packets that came in a round: how many, and how many bytes they have.
+/// Packets that came in a round: how many, and how many bytes they and their rooms have together.
 #[derive(Clone, Copy)]
 pub struct Came {
     pub count: u32,

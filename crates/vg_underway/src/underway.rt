@@ -1,11 +1,11 @@
 //! What a worker has under way, and what it keeps.
-ghost use Rattle.std.specs.Prelude.{ℕ, List, ◌≢◌, ◌≡◌, ◌+◌, ◌<◌, ◌-◌, ◌≤◌, ◌^◌, None, [], ◌∷◌, ◌++◌, length, map, replicate, take, drop, vec_len, vec_capacity, IfOk};
+ghost use Rattle.std.specs.Prelude.{ℕ, List, ◌≢◌, ◌≡◌, ◌+◌, ◌<◌, ◌-◌, ◌≤◌, ◌^◌, ◌⊎◌, None, [], ◌∷◌, ◌++◌, length, map, replicate, take, drop, vec_len, vec_capacity, IfOk};
 ghost use Rattle.std.specs.Bool.{MatchBool};
 ghost use Rattle.std.specs.List.{AllByRecursion};
 ghost use Rattle.vg_model.specs.Graph.{kind_at, handoff_dequeue};
 ghost use Rattle.vg_model.specs.declared.kinds.Step.{Step};
 ghost use Rattle.vg_hands.specs.Handed.{most_handed};
-ghost use Rattle.vg_model.specs.PoolBook.{CacheBook};
+ghost use Rattle.vg_model.specs.PoolBook.{CacheBook, IsChainOf, pieces_of};
 ghost use Rattle.vg_pool.specs.Contents.{AreContents};
 ghost use Rattle.vg_journeys.specs.Accounts.{frame_arrivals};
 ghost use Rattle.vg_model.specs.Valid.{IsTarget, IsValid, AreBytes};
@@ -27,7 +27,7 @@ use vg_fates::FateLog;
 use vg_fork::Fork;
 use vg_frame::{BufferMemory, Frame, FrameStore};
 use vg_hands::{HandFrame, HandPackets, Handoff};
-use vg_model::limits::{LONGEST_PACKET, MOST_INTERFACES, MOST_LEGS, MOST_NODES};
+use vg_model::limits::{FIRST_ROOM, LONGEST_PACKET, MOST_INTERFACES, MOST_LEGS, MOST_NODES};
 use vg_model::start::{ERROR_DROP, FIRST_SLOT, HANDOFF_DEQUEUE, PG_INPUT};
 use vg_model::{DropError, End, Leg, Memory};
 use vg_nodes::{KindSet, Sorted, dispatch_frame};
@@ -45,7 +45,7 @@ pub struct Work {
     pub trace: Trace,
 }
 
-/// Packets that were drawn: how many, how many bytes they have, and the number of the next.
+/// Packets that were drawn: how many, how many bytes they and their rooms have together, and the number of the next.
 #[derive(Clone, Copy)]
 pub struct Drew {
     pub count: u32,
@@ -60,10 +60,10 @@ impl Work {
     ghost use Rattle.vg_underway.specs.Peers.{by_worker};
     ghost use Rattle.vg_frame.specs.Placed.{count};
     ghost use Rattle.vg_underway.specs.Traced.{noted_end, noted_frame};
-    ghost use Rattle.vg_underway.specs.Draws.{CanEnter, CanDraw, DrawsLong, DrawsShort, Enters, IsHandoff, IsUnderway, IsEntered, CanDrawOwn, AreBelow};
+    ghost use Rattle.vg_underway.specs.Draws.{CanEnter, CanDraw, DrawsLong, DrawsShort, Enters, IsHandoff, IsUnderway, IsEntered, CanDrawOwn, AreBelow, AreChained, LacksBuffers};
     ghost use Rattle.vg_journeys.specs.Windows.{next_draws, mark_behind};
     ghost use Rattle.vg_underway.specs.Rest.{IsNew};
-    ghost use Rattle.vg_underway.specs.OwnPackets.{captured_bytes, own_from, frames_of};
+    ghost use Rattle.vg_underway.specs.OwnPackets.{captured_extent, own_from, frames_of};
 
     /// Nothing under way or kept, and room for the fates of so many packets and for so many bytes, and for the visits of so many.
     pub fn new(alloc: Global, packets: usize, bytes: usize, traced: u32) -> Result<Work, Memory>
@@ -71,12 +71,8 @@ impl Work {
         ensures { IfOk result (IsNew packets bytes traced) }
     {
         let fates = FateLog::new(alloc, packets)?;
-        let Ok(entries) = Vec::with_capacity(alloc, packets) else {
-            return Err(Memory);
-        };
-        let Ok(bytes) = Vec::with_capacity(alloc, bytes) else {
-            return Err(Memory);
-        };
+        let entries = Vec::with_capacity(alloc, packets)?;
+        let bytes = Vec::with_capacity(alloc, bytes)?;
         Ok(Work {
             memory: BufferMemory::new(alloc)?,
             pending: FrameStore::new(alloc, MOST_NODES as u16)?,
@@ -117,40 +113,39 @@ impl Work {
 
     // Keeps the bytes of a packet that is transmitted.
     #[inline]
-    fn keep(&mut self, number: u32, bytes: &[u8])
-        requires few { length bytes.now ≤ 2048 }
+    fn keep(&mut self, packet: &Buffer)
         requires entries { vec_len self.old.entries < vec_capacity self.old.entries }
-        requires bytes { vec_len self.old.bytes + length bytes.now ≤ vec_capacity self.old.bytes }
+        requires bytes { vec_len self.old.bytes + length packet.now.packet.bytes ≤ vec_capacity self.old.bytes }
         requires within { AreWithin self.old.entries.items self.old.bytes.items }
         ensures within { AreWithin self.new.entries.items self.new.bytes.items }
-        ensures sent { sent_by self.new.entries.items self.new.bytes.items ≡ sent_by self.old.entries.items self.old.bytes.items ++ (number, bytes.now) ∷ [] }
+        ensures sent { sent_by self.new.entries.items self.new.bytes.items ≡ sent_by self.old.entries.items self.old.bytes.items ++ (packet.now.packet.number, packet.now.packet.bytes) ∷ [] }
         ensures entries { vec_len self.new.entries ≡ vec_len self.old.entries + 1 }
-        ensures bytes { vec_len self.new.bytes ≡ vec_len self.old.bytes + length bytes.now }
+        ensures bytes { vec_len self.new.bytes ≡ vec_len self.old.bytes + length packet.now.packet.bytes }
         ensures room { (vec_capacity self.new.entries ≡ vec_capacity self.old.entries) × (vec_capacity self.old.bytes ≤ vec_capacity self.new.bytes) }
         ensures rest { self.new ≡ record self.old { entries = self.new.entries; bytes = self.new.bytes } }
     {
+        know_contents(packet);
         let start = self.bytes.len();
-        let Ok(()) = self.bytes.extend_from_slice(bytes) else {
-            unreachable!()
-        };
+        packet.copy_into(&mut self.bytes);
         self.entries.push_reserved(SentEntry {
-            number,
+            number: packet.number(),
             part: 0,
-            len: bytes.len() as u16,
+            len: packet.len() as u16,
             start,
         });
     }
 
-    // Takes the packet of an index out, whose leg is over, and gives its buffer back.
+    // Takes the packet of an index out, whose leg is over, and gives its buffers back.
     #[inline]
     fn finish<T: Ledger, G: Ledger>(&mut self, index: u32, end: End, cache: &mut Cache<T, G>)
         requires { CanFinish index end self.old cache.old }
         ensures finished { Finishes index end self.old self.new }
-        ensures cache { cache.new ≡ record cache.old { len = cache.old.len + 1; freed = cache.old.freed + 1 } }
+        ensures cache { let pieces = (contents_at self.old.memory index).pieces in
+            cache.new ≡ record cache.old { len = cache.old.len + pieces; freed = cache.old.freed + pieces } }
     {
         let packet = self.memory.lift(index);
         if let End::Tx { .. } = end {
-            self.keep(packet.number(), packet.bytes());
+            self.keep(&packet);
         }
         self.log(packet.number(), packet.legs(), None, end);
         cache.free(packet);
@@ -170,7 +165,7 @@ impl Work {
         requires setting { IsSetting (stationed K.meaning fork.now.graph fork.now.generation station) }
         requires target { IsTarget (kind_at fork.now.graph node) }
         requires steady { IsSteady (stationed K.meaning fork.now.graph fork.now.generation station) node self.old (hand_of sorted.now) }
-        requires takes { TakesAll self.old cache.old }
+        requires takes { TakesAll (stationed K.meaning fork.now.graph fork.now.generation station) node self.old (hand_of sorted.now) cache.old }
         ensures { IsPutAway (stationed K.meaning fork.now.graph fork.now.generation station) node self.old cache.old (hand_of sorted.now) self.new cache.new (without_drops sorted.now) }
     {
         'next: for entry in sorted.next.as_slice() {
@@ -197,7 +192,7 @@ impl Work {
     )
         requires { CanRefuse node buffer self.old cache.old }
         ensures refused { Refuses node accepted buffer self.old self.new }
-        ensures cache { cache.new ≡ record cache.old { len = cache.old.len + 1; freed = cache.old.freed + 1 } }
+        ensures cache { cache.new ≡ record cache.old { len = cache.old.len + buffer.pieces; freed = cache.old.freed + buffer.pieces } }
     {
         let error = DropError::Congestion;
         self.log(
@@ -235,7 +230,7 @@ impl Work {
         requires empty { groups.old ≡ replicate station.workers [] }
         requires few { length hands.now ≤ 256 }
         requires steady { IsSteady (stationed K.meaning fork.now.graph fork.now.generation station) node self.old (map hand_step hands.now) }
-        requires takes { TakesAll self.old cache.old }
+        requires takes { TakesAll (stationed K.meaning fork.now.graph fork.now.generation station) node self.old (map hand_step hands.now) cache.old }
         ensures { IsGrouped (stationed K.meaning fork.now.graph fork.now.generation station) node self.old cache.old hands.now self.new cache.new groups.new }
     {
         'hands: for entry in hands {
@@ -270,12 +265,13 @@ impl Work {
         requires target { IsTarget (kind_at fork.now.graph node) }
         requires other { (to < station.workers) × (to ≢ station.worker) }
         requires some { 1 ≤ length indexes.now }
-        requires hand { (rest : List (ℕ × Step)) × IsSteady (stationed K.meaning fork.now.graph fork.now.generation station) node self.old (handed_to to indexes.now ++ rest) }
+        requires hand { (rest : List (ℕ × Step)) × IsSteady (stationed K.meaning fork.now.graph fork.now.generation station) node self.old (handed_to to indexes.now ++ rest)
+            × TakesAll (stationed K.meaning fork.now.graph fork.now.generation station) node self.old (handed_to to indexes.now ++ rest) cache.old }
         requires few { AllByRecursion (HasFewLegs self.old.memory) indexes.now }
-        requires takes { TakesAll self.old cache.old }
         requires room { length indexes.now ≤ H.free_room output.old }
         requires count { length (H.accepted output.old) < 2 ^ 62 }
         ensures handed { (rest : List (ℕ × Step)) → IsSteady (stationed K.meaning fork.now.graph fork.now.generation station) node self.old (handed_to to indexes.now ++ rest)
+            → TakesAll (stationed K.meaning fork.now.graph fork.now.generation station) node self.old (handed_to to indexes.now ++ rest) cache.old
             → HandsOver (stationed K.meaning fork.now.graph fork.now.generation station) node to (H.slots output.old) H.LOSSLESS self.old cache.old (H.accepted output.old) (handed_to to indexes.now ++ rest)
             self.new cache.new (H.accepted output.new) rest }
         ensures ring { H.ring output.new ≡ H.ring output.old }
@@ -313,7 +309,7 @@ impl Work {
         requires can { CanHand station (count self.old.memory) (map H.accepted outputs.old) (map H.slots outputs.old) (map H.free_room outputs.old) }
         requires groups { AreGroups (stationed K.meaning fork.now.graph fork.now.generation station) self.old groups.old }
         requires steady { IsSteady (stationed K.meaning fork.now.graph fork.now.generation station) node self.old (grouped 0 groups.old) }
-        requires takes { TakesAll self.old cache.old }
+        requires takes { TakesAll (stationed K.meaning fork.now.graph fork.now.generation station) node self.old (grouped 0 groups.old) cache.old }
         ensures away { PutsAway (stationed K.meaning fork.now.graph fork.now.generation station) node station.slots H.LOSSLESS
             (PushesOver station H.LOSSLESS H.accepted (outlet_of H.end H.refusals H.waiting H.free_room H.closes (most_in_round station.workers)) outputs.old self.old.fates.items outputs.new self.new.fates.items)
             self.old cache.old (by_worker station.worker [] (map H.accepted outputs.old)) (grouped 0 groups.old)
@@ -352,7 +348,7 @@ impl Work {
         requires can { CanHand station (count self.old.memory) (map H.accepted outputs.old) (map H.slots outputs.old) (map H.free_room outputs.old) }
         requires empty { groups.old ≡ replicate station.workers [] }
         requires steady { IsSteady (stationed K.meaning fork.now.graph fork.now.generation station) node self.old (hand_of sorted.now) }
-        requires takes { TakesAll self.old cache.old }
+        requires takes { TakesAll (stationed K.meaning fork.now.graph fork.now.generation station) node self.old (hand_of sorted.now) cache.old }
         ensures away { PutsAway (stationed K.meaning fork.now.graph fork.now.generation station) node station.slots H.LOSSLESS
             (PushesOver station H.LOSSLESS H.accepted (outlet_of H.end H.refusals H.waiting H.free_room H.closes (most_in_round station.workers)) outputs.old self.old.fates.items outputs.new self.new.fates.items)
             self.old cache.old (by_worker station.worker [] (map H.accepted outputs.old)) (hand_of sorted.now)
@@ -397,7 +393,7 @@ impl Work {
         requires can { CanHand station (count self.old.memory) (map H.accepted outputs.old) (map H.slots outputs.old) (map H.free_room outputs.old) }
         requires empty { (sorted.old ≡ nothing_sorted) × (groups.old ≡ replicate station.workers []) }
         requires steady { IsSteady (stationed K.meaning fork.now.graph fork.now.generation station) 0 self.old [] }
-        requires takes { TakesAll self.old cache.old }
+        requires takes { TakesAll (stationed K.meaning fork.now.graph fork.now.generation station) 0 self.old [] cache.old }
         ensures empty { (sorted.new ≡ nothing_sorted) × (groups.new ≡ replicate station.workers []) }
         ensures dispatched { IsDispatched (stationed K.meaning fork.now.graph fork.now.generation station) station.slots H.LOSSLESS
             (PushesOver station H.LOSSLESS H.accepted (outlet_of H.end H.refusals H.waiting H.free_room H.closes (most_in_round station.workers)) outputs.old self.old.fates.items outputs.new self.new.fates.items)
@@ -432,7 +428,7 @@ impl Work {
         requires can { CanHand station (count self.old.memory) (map H.accepted outputs.old) (map H.slots outputs.old) (map H.free_room outputs.old) }
         requires empty { (sorted.old ≡ nothing_sorted) × (groups.old ≡ replicate station.workers []) }
         requires steady { IsSteady (stationed K.meaning fork.now.graph fork.now.generation station) 0 self.old [] }
-        requires takes { TakesAll self.old cache.old }
+        requires takes { TakesAll (stationed K.meaning fork.now.graph fork.now.generation station) 0 self.old [] cache.old }
         ensures empty { (sorted.new ≡ nothing_sorted) × (groups.new ≡ replicate station.workers []) }
         ensures dispatched { IsDispatched (stationed K.meaning fork.now.graph fork.now.generation station) station.slots H.LOSSLESS
             (PushesOver station H.LOSSLESS H.accepted (outlet_of H.end H.refusals H.waiting H.free_room H.closes (most_in_round station.workers)) outputs.old self.old.fates.items outputs.new self.new.fates.items)
@@ -446,26 +442,25 @@ impl Work {
         ) {}
     }
 
-    // Draws a packet: it is placed in a buffer and waits for the node that the packet source leads to, or is dropped there where it
-    // is too long.
+    // Draws a packet, for which this chain was taken: it is put into it and waits for the node that the packet source leads to, or is
+    // dropped there where it is too long.
     fn draw<T: Ledger, G: Ledger>(
         &mut self,
         fork: &Fork,
         leg: Leg,
         number: u32,
         bytes: &[u8],
+        mut buffer: Buffer,
         cache: &mut Cache<T, G>,
     )
         requires valid { IsValid fork.now.graph }
         requires few { length fork.now.graph.nodes ≤ length self.old.pending }
-        requires can { CanDraw self.old cache.old }
+        requires chain { IsChainOf (length bytes.now) buffer.pieces }
+        requires can { CanDraw buffer.pieces self.old cache.old }
         ensures bytes { AreBytes bytes.now }
         ensures long { LONGEST_PACKET < length bytes.now → DrawsLong leg number self.old self.new cache.old cache.new }
         ensures short { length bytes.now ≤ LONGEST_PACKET → DrawsShort fork.now.graph leg number bytes.now self.old self.new cache.old cache.new }
     {
-        let Some(mut buffer) = cache.alloc() else {
-            unreachable!()
-        };
         self.counts.visit(PG_INPUT, 1);
         self.trace.note(number, 1, PG_INPUT);
         if bytes.len() > LONGEST_PACKET {
@@ -497,9 +492,9 @@ impl Work {
         requires legs { length buffer.legs ≤ 3 }
         requires can { CanEnter handoff_dequeue self.old }
         ensures sound { AreContents buffer }
-        ensures enters { Enters fork.now.graph handoff_dequeue node (record { packet = buffer.packet; legs = buffer.legs ++ leg ∷ [] }) self.old self.new }
+        ensures enters { Enters fork.now.graph handoff_dequeue node (record buffer { legs = buffer.legs ++ leg ∷ [] }) self.old self.new }
     {
-        let _ = buffer.bytes();
+        know_contents(&buffer);
         buffer.add_leg(leg);
         self.counts.visit(HANDOFF_DEQUEUE, 1);
         self.trace.note(buffer.number(), buffer.legs().len() as u8, HANDOFF_DEQUEUE);
@@ -530,7 +525,7 @@ impl Work {
     }
 
     /// Draws the worker's next packets, from this number on: those below the limit, each as many numbers behind the one before as there
-    /// are workers, and at most so many.
+    /// are workers, and at most so many. It stops where the cache has fewer buffers than the next one takes.
     pub fn draw_own<K: KindSet, T: Ledger, G: Ledger>(
         &mut self,
         fork: &Fork,
@@ -548,7 +543,7 @@ impl Work {
         requires limit { limit ≤ length packets.now }
         requires few { length packets.now ≤ 65536 }
         requires mark { mark < 2 ^ 32 }
-        requires bytes { captured_bytes packets.now < 2 ^ 64 }
+        requires bytes { captured_extent packets.now < 2 ^ 64 }
         requires can { CanDrawOwn (stationed K.meaning fork.now.graph fork.now.generation station) mark limit most packets.now self.old cache.old }
         ensures drawn { (from : CanDrawOwn (stationed K.meaning fork.now.graph fork.now.generation station) mark limit most packets.now self.old cache.old)
             → IsEntered (stationed K.meaning fork.now.graph fork.now.generation station) (from.before ++ next_draws station.workers mark result.count (frames_of packets.now))
@@ -556,9 +551,10 @@ impl Work {
         ensures most { result.count ≤ most }
         ensures mark { result.mark ≡ mark_behind station.workers mark result.count }
         ensures below { AreBelow station.workers mark limit result.count }
-        ensures all { result.count < most → limit ≤ result.mark }
+        ensures chained { AreChained station.workers mark result.count (frames_of packets.now) cache.old.len cache.new.len }
+        ensures all { result.count < most → (limit ≤ result.mark) ⊎ LacksBuffers (frames_of packets.now) result.mark cache.new.len }
         ensures own { own_from station.workers result.mark packets.now ≡ drop result.count (own_from station.workers mark packets.now) }
-        ensures bytes { result.bytes ≡ captured_bytes (take result.count (own_from station.workers mark packets.now)) }
+        ensures bytes { result.bytes ≡ captured_extent (take result.count (own_from station.workers mark packets.now)) }
     {
         let mut drew = Drew {
             count: 0,
@@ -567,11 +563,29 @@ impl Work {
         };
         'draws: while drew.count < most && drew.mark < u64::from(limit) {
             let bytes = packets.bytes(drew.mark as usize);
-            self.draw(fork, leg, drew.mark as u32, bytes, cache);
+            let Some(buffer) = cache.alloc(drawn_len(bytes)) else {
+                break;
+            };
+            self.draw(fork, leg, drew.mark as u32, bytes, buffer, cache);
             drew.count += 1;
-            drew.bytes += bytes.len();
+            drew.bytes += bytes.len() + FIRST_ROOM;
             drew.mark += u64::from(station.workers);
         }
         drew
     }
+}
+
+// A length for which a packet of these bytes takes as many buffers: its own, or one more than the longest where it is too long.
+#[inline]
+fn drawn_len(bytes: &[u8]) -> u32
+    ensures { pieces_of result ≡ pieces_of (length bytes.now) }
+{
+    bytes.len().min(LONGEST_PACKET + 1) as u32
+}
+
+// What holds of every buffer.
+fn know_contents(buffer: &Buffer)
+    ensures { AreContents buffer.now }
+{
+    let _head = buffer.head();
 }

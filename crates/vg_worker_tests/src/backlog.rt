@@ -24,10 +24,10 @@ fn frame<T: PoolLedger, G: Ledger>(cache: &mut Cache<T, G>, node: u16) -> Result
     ensures packets { IfOk result (λ frame. length frame.packets ≡ 2) }
     ensures cache { IfOk result (λ _. cache.new.allocated ≡ cache.old.allocated + 2) }
 {
-    let mut first = cache.alloc().ok_or("a buffer")?;
+    let mut first = cache.alloc(60).ok_or("a buffer")?;
     first.fill(u32::from(node), b"abc");
     first.add_leg(LEG);
-    let mut second = cache.alloc().ok_or("another buffer")?;
+    let mut second = cache.alloc(60).ok_or("another buffer")?;
     second.fill(100, b"defgh");
     second.add_leg(LEG);
     let mut packets = HandPackets::new();
@@ -59,7 +59,7 @@ fn next_is<R: Abort>(rt: &R, rx: &mut RingRx<HandFrame>, node: u16) -> Result<()
     assert_eq!(rt; frame.node(), node);
     assert_eq!(rt; frame.generation(), 3);
     assert_eq!(rt; frame.count_packets(), 2);
-    assert_eq!(rt; frame.count_bytes(), 8);
+    assert_eq!(rt; frame.count_bytes(), 8 + 2 * 64);
     let mut packets = frame.into_packets().unpack();
     let first = packets.take_first().ok_or("a packet")?;
     assert_eq!(rt; first.number(), u32::from(node));

@@ -36,15 +36,15 @@ fn places_and_lifts<T: PoolLedger, G: Ledger, R: Abort>(
     let mut cache = caches.pop().ok_or("a cache")?;
     assert_eq!(rt; pool.take(2, &mut cache), 2);
     let mut memory = BufferMemory::new(alloc)?;
-    let first = memory.place(cache.alloc().ok_or("a buffer")?);
-    let second = memory.place(cache.alloc().ok_or("another buffer")?);
+    let first = memory.place(cache.alloc(60).ok_or("a buffer")?);
+    let second = memory.place(cache.alloc(60).ok_or("another buffer")?);
     assert!(rt; first != second);
     memory.get_mut(first).fill(1, b"one");
     memory.get_mut(second).fill(2, b"two");
-    assert!(rt; memory.get_mut(first).bytes() == b"one".as_slice());
+    assert!(rt; memory.get_mut(first).head() == b"one".as_slice());
     let lifted = memory.lift(second);
     assert_eq!(rt; lifted.number(), 2);
-    assert!(rt; lifted.bytes() == b"two".as_slice());
+    assert!(rt; lifted.head() == b"two".as_slice());
     Ok(())
 }
 

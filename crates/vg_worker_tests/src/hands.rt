@@ -22,10 +22,10 @@ fn frame<T: PoolLedger, G: Ledger>(cache: &mut Cache<T, G>) -> Result<HandFrame,
     ensures packets { IfOk result (λ frame. length frame.packets ≡ 2) }
     ensures cache { IfOk result (λ _. cache.new.allocated ≡ cache.old.allocated + 2) }
 {
-    let mut first = cache.alloc().ok_or("a buffer")?;
+    let mut first = cache.alloc(60).ok_or("a buffer")?;
     first.fill(7, b"abc");
     first.add_leg(LEG);
-    let mut second = cache.alloc().ok_or("another buffer")?;
+    let mut second = cache.alloc(60).ok_or("another buffer")?;
     second.fill(8, b"defgh");
     second.add_leg(LEG);
     let mut packets = HandPackets::new();
@@ -49,18 +49,18 @@ fn is_whole<R: Abort>(rt: &R, frame: HandFrame) -> Result<(), Fail> {
     assert_eq!(rt; frame.node(), 12);
     assert_eq!(rt; frame.generation(), 3);
     assert_eq!(rt; frame.count(), 2);
-    assert_eq!(rt; frame.count_bytes(), 8);
+    assert_eq!(rt; frame.count_bytes(), 8 + 2 * 64);
     let packets = frame.into_packets();
     assert_eq!(rt; packets.len(), 2);
-    assert_eq!(rt; packets.count_bytes(), 8);
+    assert_eq!(rt; packets.count_bytes(), 8 + 2 * 64);
     let mut packets = packets.unpack();
     let first = packets.take_first().ok_or("the first packet")?;
     assert_eq!(rt; first.number(), 7);
-    assert_eq!(rt; first.bytes(), b"abc".as_slice());
+    assert_eq!(rt; first.head(), b"abc".as_slice());
     assert_eq!(rt; first.legs().len(), 1);
     let second = packets.take_first().ok_or("the second packet")?;
     assert_eq!(rt; second.number(), 8);
-    assert_eq!(rt; second.bytes(), b"defgh".as_slice());
+    assert_eq!(rt; second.head(), b"defgh".as_slice());
     assert!(rt; packets.take_first().is_none());
     assert!(rt; packets.take_first().is_none());
     Ok(())

@@ -7,6 +7,8 @@ mod backlog;
 #[cfg(test)]
 mod barrier;
 #[cfg(test)]
+mod chains;
+#[cfg(test)]
 mod counters;
 #[cfg(test)]
 mod fork;

@@ -9,17 +9,25 @@ use std::marker::Brand;
 use std::process::Abort;
 use std::sync::ledger::{Blank, Ledger};
 use std::test::Fail;
-use vg_fib::Fib;
+use vg_fib::{Fib, Fib6};
 use vg_fork::Fork;
 use vg_frame::{BufferMemory, Frame};
 use vg_graph::Graph;
-use vg_model::{DropError, Edit, HashKind, Kind, Leg, Mac, Name, Prefix, RouteTo, Step};
+use vg_model::{
+    DropError, Edit, HashKind, Kind, Leg, Mac, Members, Name, Prefix, RouteTo, Step, VlanId,
+};
 use vg_nodes::{Ip4Kinds, KindSet, Sorted, dispatch_frame};
 use vg_pool::{Buffer, Pool, PoolLedger};
 
 const PG0: Mac = Mac([0x02, 0xfe, 0, 0, 0, 0]);
 
 const EVERYWHERE: Prefix = Prefix { addr: 0, len: 0 };
+
+// 10.1.0.0/16.
+const TEN_ONE: Prefix = Prefix {
+    addr: 0x0a01_0000,
+    len: 16,
+};
 
 const LEG: Leg = Leg {
     worker: 0,
@@ -103,11 +111,16 @@ fn taken_out<T: PoolLedger, G: Ledger>(
     let (mut pool, mut caches) = Pool::<T, G>::new(alloc, 1, 1, taken, given)?;
     let mut cache = caches.pop().ok_or("a cache")?;
     pool.take(1, &mut cache);
-    Ok(cache.alloc().ok_or("a buffer")?)
+    Ok(cache.alloc(60).ok_or("a buffer")?)
 }
 
 fn buffer(alloc: Global) -> Result<Buffer, Fail> {
     taken_out::<Brand, Brand>(alloc, Blank::new(1), Blank::new(1))
+}
+
+// Over one neighbor.
+fn via(number: u16) -> RouteTo {
+    RouteTo::Via(Members::one(number))
 }
 
 // The whole graph that a run starts from, with these routes.
@@ -116,7 +129,7 @@ fn fork(alloc: Global, graph: &Graph, routes: &[(Prefix, RouteTo)]) -> Result<Fo
     for (prefix, to) in routes {
         fib.set(*prefix, *to)?;
     }
-    Ok(Fork::of(alloc, graph, &fib, 0)?)
+    Ok(Fork::of(alloc, graph, &fib, &Fib6::new(alloc)?, 0)?)
 }
 
 fn set_adjacency(graph: &mut Graph, text: &str, interface: &str, mac: Mac) -> Result<(), Fail> {
@@ -139,21 +152,15 @@ fn a_packet_leaves_over_the_longest_match(rt: HostRuntime) -> Result<(), Fail> {
         alloc,
         &graph,
         &[
-            (EVERYWHERE, RouteTo::Via(0)),
+            (EVERYWHERE, via(0)),
             (
                 Prefix {
                     addr: 0x0a00_0000,
                     len: 8,
                 },
-                RouteTo::Via(1),
+                via(1),
             ),
-            (
-                Prefix {
-                    addr: 0x0a01_0000,
-                    len: 16,
-                },
-                RouteTo::Via(2),
-            ),
+            (TEN_ONE, via(2)),
         ],
     )?;
     let mut buffer = buffer(alloc)?;
@@ -162,10 +169,87 @@ fn a_packet_leaves_over_the_longest_match(rt: HostRuntime) -> Result<(), Fail> {
     assert_eq!(rt; end(&rt, &fork, frame_in.as_slice(), &mut buffer), SENT);
     let sent = header(20, 63, 0xadd4, [10, 1, 2, 3]);
     let frame_out = frame(alloc, host(0x16), PG0, &sent, 34)?;
-    assert_eq!(rt; buffer.bytes(), frame_out.as_slice());
+    assert_eq!(rt; buffer.head(), frame_out.as_slice());
     assert_eq!(rt; buffer.adjacency(), Some(2));
     assert_eq!(rt; buffer.interface(), Some(0));
     assert_eq!(rt; buffer.legs(), [LEG].as_slice());
+    Ok(())
+}
+
+// The graph of two neighbors, whose addresses end in 0x10 and 0x11.
+fn two_neighbors(alloc: Global) -> Result<Graph, Fail> {
+    let mut graph = Graph::start(alloc)?;
+    for (text, last) in [("e0", 0x10), ("e1", 0x11)] {
+        set_adjacency(&mut graph, text, "pg0", host(last))?;
+    }
+    Ok(graph)
+}
+
+#[test]
+fn a_hash_picks_one_of_the_neighbors_of_a_route(rt: HostRuntime) -> Result<(), Fail> {
+    let alloc = rt.alloc();
+    let graph = two_neighbors(alloc)?;
+    let mut buffer = buffer(alloc)?;
+    let mut tenth = [0; 16];
+    tenth[9] = 1;
+    // To 10.1.2.3 the hash is 0xcacbcbc9, whose eighth is 425294201, and to 10.1.2.11 the eighth is one less: their remainders
+    // are 1 and 0 of two, 2 and 1 of three, 9 and 8 of sixteen.
+    for (members, third, eleventh) in [
+        ([0, 1].as_slice(), 0x11, 0x10),
+        ([1, 0].as_slice(), 0x10, 0x11),
+        ([1, 1, 0].as_slice(), 0x10, 0x11),
+        ([0, 0, 1].as_slice(), 0x11, 0x10),
+        (tenth.as_slice(), 0x11, 0x10),
+        ([0].as_slice(), 0x10, 0x10),
+        ([1].as_slice(), 0x11, 0x11),
+    ] {
+        let members = Members::of(members).ok_or("1 to 16")?;
+        let fork = fork(alloc, &graph, &[(TEN_ONE, RouteTo::Via(members))])?;
+        for (last, checksum, lowered, neighbor) in [
+            (3, 0xacd4, 0xadd4, third),
+            (11, 0xaccc, 0xadcc, eleventh),
+        ] {
+            let received = header(20, 64, checksum, [10, 1, 2, last]);
+            let frame_in = frame(alloc, PG0, host(1), &received, 34)?;
+            assert_eq!(rt; end(&rt, &fork, frame_in.as_slice(), &mut buffer), SENT);
+            let sent = header(20, 63, lowered, [10, 1, 2, last]);
+            let frame_out = frame(alloc, host(neighbor), PG0, &sent, 34)?;
+            assert_eq!(rt; buffer.head(), frame_out.as_slice(), "{members:?}");
+        }
+    }
+    Ok(())
+}
+
+#[test]
+fn kinds_of_other_sets_drop_what_comes(rt: HostRuntime) -> Result<(), Fail> {
+    let alloc = rt.alloc();
+    let id = VlanId { number: 100 };
+    let received = header(20, 64, 0xacd4, [10, 1, 2, 3]);
+    let frame_in = frame(alloc, PG0, host(1), &received, 34)?;
+    let mut buffer = buffer(alloc)?;
+    for kind in [
+        Kind::EthernetDual,
+        Kind::Ip6Input,
+        Kind::Ip6Lookup,
+        Kind::Ip6Rewrite,
+        Kind::Dot1qMatch(id),
+        Kind::Dot1qPush(id),
+        Kind::Dot1qRewrite(id),
+        Kind::CrossConnect(0),
+    ] {
+        let mut graph = Graph::start(alloc)?;
+        graph.apply(&Edit::Node {
+            name: name("other")?,
+            kind,
+        })?;
+        let fork = fork(alloc, &graph, &[])?;
+        assert!(rt; frame_in.len() <= 2048);
+        buffer.fill(7, frame_in.as_slice());
+        let step = visit(&rt, &fork, 9, &mut buffer);
+        assert_eq!(rt; (9, step), dropped(9, DropError::Blackhole), "{kind:?}");
+        assert_eq!(rt; buffer.head(), frame_in.as_slice(), "{kind:?}");
+        assert_eq!(rt; (buffer.adjacency(), buffer.interface()), (None, None));
+    }
     Ok(())
 }
 
@@ -173,7 +257,7 @@ fn a_packet_leaves_over_the_longest_match(rt: HostRuntime) -> Result<(), Fail> {
 fn east(alloc: Global) -> Result<Fork, Fail> {
     let mut graph = Graph::start(alloc)?;
     set_adjacency(&mut graph, "east", "pg0", host(9))?;
-    fork(alloc, &graph, &[(EVERYWHERE, RouteTo::Via(0))])
+    fork(alloc, &graph, &[(EVERYWHERE, via(0))])
 }
 
 #[test]
@@ -192,7 +276,7 @@ fn a_time_to_live_of_2_leaves_as_1(rt: HostRuntime) -> Result<(), Fail> {
     }
     let sent = header(20, 1, 0xebd4, [10, 1, 2, 3]);
     let frame_out = frame(alloc, host(9), PG0, &sent, 34)?;
-    assert_eq!(rt; buffer.bytes(), frame_out.as_slice());
+    assert_eq!(rt; buffer.head(), frame_out.as_slice());
     Ok(())
 }
 
@@ -209,7 +293,7 @@ fn assert_sent(
     let frame_in = frame(alloc, PG0, host(1), received, len)?;
     assert_eq!(rt; end(rt, fork, frame_in.as_slice(), &mut buffer), SENT);
     let frame_out = frame(alloc, host(9), PG0, sent, len)?;
-    assert_eq!(rt; buffer.bytes(), frame_out.as_slice());
+    assert_eq!(rt; buffer.head(), frame_out.as_slice());
     Ok(())
 }
 
@@ -266,19 +350,13 @@ fn interfaces_filter_and_go_down(rt: HostRuntime) -> Result<(), Fail> {
         alloc,
         &graph,
         &[
-            (
-                Prefix {
-                    addr: 0x0a01_0000,
-                    len: 16,
-                },
-                RouteTo::Via(0),
-            ),
+            (TEN_ONE, via(0)),
             (
                 Prefix {
                     addr: 0x0a02_0000,
                     len: 16,
                 },
-                RouteTo::Via(1),
+                via(1),
             ),
         ],
     )?;

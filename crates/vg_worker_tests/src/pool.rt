@@ -33,8 +33,8 @@ fn settled<T: PoolLedger, G: Ledger, R: Abort>(
     assert_eq!(rt; pool.take(128, &mut second), 128);
     assert_eq!(rt; pool.take(128, &mut second), 44);
     assert_eq!(rt; pool.give(44, &mut second), 44);
-    let one = first.alloc().ok_or("a buffer")?;
-    let other = first.alloc().ok_or("another buffer")?;
+    let one = first.alloc(60).ok_or("a buffer")?;
+    let other = first.alloc(60).ok_or("another buffer")?;
     first.free(one);
     if loses_one {
         drop(other);
@@ -200,7 +200,7 @@ fn buffer<T: PoolLedger, G: Ledger, R: Abort>(
     let (mut pool, mut caches) = Pool::<T, G>::new(alloc, 300, 1, taken, given)?;
     let mut cache: Cache<T, G> = caches.pop().ok_or("a cache")?;
     assert_eq!(rt; pool.take(1, &mut cache), 1);
-    Ok(cache.alloc().ok_or("a buffer")?)
+    Ok(cache.alloc(60).ok_or("a buffer")?)
 }
 
 // The same under ledgers of its own.
@@ -214,7 +214,7 @@ fn a_packet_is_put_into_a_buffer_and_changed(rt: HostRuntime) -> Result<(), Fail
     let mut buffer = buffer_anew(&rt, rt.alloc())?;
     buffer.fill(7, &frame);
     assert_eq!(rt; buffer.number(), 7);
-    assert!(rt; buffer.bytes() == frame.as_slice());
+    assert!(rt; buffer.head() == frame.as_slice());
     assert!(rt; !buffer.checked());
     assert_eq!(rt; buffer.adjacency(), None);
     assert_eq!(rt; buffer.interface(), None);
@@ -230,8 +230,8 @@ fn a_packet_is_put_into_a_buffer_and_changed(rt: HostRuntime) -> Result<(), Fail
     };
     buffer.add_leg(leg);
     assert_eq!(rt; buffer.number(), 7);
-    assert!(rt; buffer.bytes()[..6] == [2, 0, 0, 0, 0, 9]);
-    assert!(rt; buffer.bytes()[6..] == frame[6..]);
+    assert!(rt; buffer.head()[..6] == [2, 0, 0, 0, 0, 9]);
+    assert!(rt; buffer.head()[6..] == frame[6..]);
     assert!(rt; buffer.checked());
     assert_eq!(rt; buffer.adjacency(), Some(3));
     assert_eq!(rt; buffer.interface(), Some(1));
@@ -259,17 +259,17 @@ fn a_stack_gives_its_buffers_back_from_the_last(rt: HostRuntime) -> Result<(), F
 
     let ninth = stack.pop().ok_or("the buffer that was pushed last")?;
     assert_eq!(rt; ninth.number(), 9);
-    assert_eq!(rt; ninth.bytes(), b"defgh".as_slice());
+    assert_eq!(rt; ninth.head(), b"defgh".as_slice());
     let mut stack = stack.reversed();
     let seventh = stack.pop().ok_or("the buffer that was pushed first")?;
     assert_eq!(rt; seventh.number(), 7);
-    assert_eq!(rt; seventh.bytes(), b"abc".as_slice());
+    assert_eq!(rt; seventh.head(), b"abc".as_slice());
     stack.push(ninth);
     let ninth = stack.pop().ok_or("the buffer that was pushed again")?;
     assert_eq!(rt; ninth.number(), 9);
     let eighth = stack.pop().ok_or("the buffer that was pushed second")?;
     assert_eq!(rt; eighth.number(), 8);
-    assert!(rt; eighth.bytes().is_empty());
+    assert!(rt; eighth.head().is_empty());
     assert!(rt; stack.is_empty());
     assert!(rt; stack.pop().is_none());
     assert!(rt; stack.pop().is_none());

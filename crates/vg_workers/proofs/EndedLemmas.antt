@@ -2,12 +2,9 @@
 use Rattle.std.proofs.Common.{◌≡◌, List, Vec, Global, [], ◌∷◌, ◌++◌, map, sym, ap, subst, ◌∙◌}
 use Rattle.std.specs.List.{AllByRecursion}
 use Rattle.std.proofs.lemmas.List.{map_push}
-use Rattle.vg_model.specs.PoolBook.{CacheBook}
-use Rattle.vg_model.specs.declared.fates.Fate.{Fate}
 use Rattle.vg_ring.specs.declared.ends.RingTx.{RingTx}
 use Rattle.vg_ring.specs.declared.ends.RingRx.{RingRx}
-use Rattle.vg_counters.specs.Tally.{Tally, IsWhole}
-use Rattle.vg_counters.specs.Notes.{Notes}
+use Rattle.vg_counters.specs.Tally.{IsWhole}
 use Rattle.vg_journeys.specs.Accounts.{HandoffFrame}
 use Rattle.vg_dispatch.specs.Workers.{WorkerBook}
 use Rattle.vg_workers.specs.declared.ends.Ends.{Ends}

@@ -16,12 +16,8 @@ use vg_ring::{RingTx, ring};
 fn unlinked(alloc: Global, workers: usize) -> Result<WorkerLinks<RingTx<HandFrame>>, Memory>
     ensures { IfOk result (λ links. (links.inputs.items ≡ []) × (links.outputs.items ≡ [])) }
 {
-    let Ok(inputs) = Vec::with_capacity(alloc, workers) else {
-        return Err(Memory);
-    };
-    let Ok(outputs) = Vec::with_capacity(alloc, workers) else {
-        return Err(Memory);
-    };
+    let inputs = Vec::with_capacity(alloc, workers)?;
+    let outputs = Vec::with_capacity(alloc, workers)?;
     Ok(WorkerLinks { inputs, outputs })
 }
 

@@ -1,13 +1,11 @@
--- What comes of a call is what is to be expected.
-use Rattle.std.proofs.Common.{◌≡◌, ℕ, ◌+◌, List, length, take, refl, sym, ap, subst, ◌∙◌, inl, inr}
+-- For `draw_run`: what comes of a call is what is to be expected.
+use Rattle.std.proofs.Common.{◌≡◌, ℕ, ◌+◌, List, length, take, sym, ap, subst, ◌∙◌, inl, inr}
 use Rattle.std.specs.Prelude.{◌⊎◌, Option, Some, None, Result, Ok, Err, IsSome, IsSomeAnd, IfOk, IfErr}
 use Rattle.std.proofs.lemmas.Bool.{false≢true}
 use Rattle.std.proofs.lemmas.Option.{none-some, same_Some}
 use Rattle.vg_model.specs.Graph.{Graph}
-use Rattle.vg_model.specs.Generations.{Graphs}
 use Rattle.vg_outside.specs.Files.{Files, file, FirstBytes, FailedLoad, IsAbsent}
 use Rattle.vg_script.specs.declared.errors.ScriptError.{ScriptError}
-use Rattle.vg_script.specs.declared.scripts.Script.{Script}
 use Rattle.vg_script.specs.Generations.{generations_of}
 use Rattle.vg_script.specs.Reading.{largest_script}
 use Rattle.vg_report.specs.declared.errors.ReportError.{ReportError}
@@ -23,7 +21,7 @@ use Rattle.vgdraw.specs.Asked.{Ask, asked}
 use Rattle.vgdraw.specs.Drawn.{IsWithin}
 use Rattle.vgdraw.specs.Dues.{IsDueFor}
 use Rattle.vgdraw.specs.Expected.{IsLoadable, IsWithinStatus, IsReportStatus, IsNamedStatus, IsScriptStatus, IsExpected}
-use Rattle.vgdraw.specs.Run.{Call, Makes, MakesAt, IsScriptRefusal, IsScriptFault, IsReportAt, IsReportFault, IsReportOf, IsMade, IsDrawn, IsRefused, IsRefusedFor, OnRefusal, status_of, largest_report}
+use Rattle.vgdraw.specs.Run.{Call, Makes, MakesAt, IsScriptRefusal, IsScriptFault, IsReportFault, IsReportOf, IsDrawn, IsRefused, OnRefusal, status_of, largest_report}
 
 -- ---- files that the folder tells
 

@@ -1,10 +1,8 @@
--- Generations made one after the other, and their drawings.
-use Rattle.std.proofs.Common.{◌≡◌, ℕ, zero, suc, ◌+◌, ◌<◌, ◌≤◌, List, [], ◌∷◌, ◌++◌, length, take, drop, refl, sym, ap, subst, ◌∙◌, append-nil, arith}
-use Rattle.std.specs.Prelude.{Option, Some, None, option_map, unwrap_or, slice_get}
+-- For `one` and `all`: generations made one after the other, and their drawings.
+use Rattle.std.proofs.Common.{◌≡◌, ℕ, zero, suc, ◌+◌, ◌<◌, ◌≤◌, List, [], ◌∷◌, ◌++◌, length, take, drop, refl, sym, ap, ◌∙◌, append-nil, arith}
+use Rattle.std.specs.Prelude.{Option, Some, option_map, unwrap_or, slice_get}
 use Rattle.std.proofs.lemmas.List.{drop-drop}
-use Rattle.std.proofs.lemmas.Option.{slice_get_within}
 use Rattle.vg_model.specs.Graph.{Graph}
-use Rattle.vg_plan.specs.Routed.{with_routes}
 use Rattle.vg_report.specs.declared.reports.Report.{Report}
 use Rattle.vg_draw.specs.Drawing.{drawing, numbered, all_of}
 use Rattle.vg_draw.proofs.LineLemmas.{one_more_line}
@@ -21,12 +19,6 @@ at_place : {X : Type 0} (n : ℕ) (xs : List X) → n < length xs → (x : X) ×
 at_place n [] h = absurd (omega (arith, h))
 at_place zero (x ∷ xs) h = (x, refl)
 at_place (suc n) (x ∷ xs) h = at_place n xs (omega (arith, h))
-
--- the drawing of a master's graph is that of the first generation
-pub first_is : (report : Option Report) (number : ℕ) (graphs : List Graph) (whole graph : Graph) → slice_get graphs 0 ≡ Some whole → with_routes graph whole.routes ≡ whole
-    → drawing report number graph ≡ first_drawing report number graphs
-first_is report number graphs whole graph first same =
-    ap (drawing report number) same ∙ sym (ap (λ (o : Option Graph). unwrap_or (option_map (drawing report number) o) []) first)
 
 -- so many generations on, and one more
 pub one_further : (generations later graphs : List Graph) (made : ℕ) → generations ≡ drop made graphs → later ≡ drop 1 generations → later ≡ drop (made + 1) graphs

@@ -1,6 +1,6 @@
--- Refusals of a drawing.
-use Rattle.std.proofs.Common.{◌≡◌, ℕ, ◌+◌, ◌≤◌, List, length, refl, sym, ap, subst, ◌∙◌, inl, inr, arith}
-use Rattle.std.specs.Prelude.{◌≢◌, ◌⊎◌, Option, Some, None, option_map, Result, Ok, Err, IfOk, IfErr}
+-- For `drawn` and `draw_run`: refusals of a drawing.
+use Rattle.std.proofs.Common.{◌≡◌, ℕ, ◌+◌, ◌≤◌, List, length, refl, sym, ap, subst, inl, inr, arith}
+use Rattle.std.specs.Prelude.{◌≢◌, ◌⊎◌, Option, Some, Result, Ok, Err, IfOk, IfErr}
 use Rattle.vg_outside.specs.Files.{Files, FirstBytes, FailedLoad, IsAbsent}
 use Rattle.vg_script.specs.declared.errors.ScriptCause.{ScriptCause}
 use Rattle.vg_script.specs.declared.errors.ScriptCause.TheVariants as script_causes
@@ -8,7 +8,7 @@ use Rattle.vg_script.specs.declared.errors.ScriptError.{ScriptError}
 use Rattle.vg_script.specs.declared.scripts.Script.{Script}
 use Rattle.vg_script.specs.Generations.{generations_of}
 use Rattle.vg_script.specs.Reading.{script_of, refused, largest_script, IsRefusal}
-use Rattle.vg_plan.specs.Refusals.{IsRefusalOf, out_of_memory}
+use Rattle.vg_plan.specs.Refusals.{IsRefusalOf}
 use Rattle.vg_report.specs.declared.errors.ReportCause.{ReportCause}
 use Rattle.vg_report.specs.declared.errors.ReportCause.TheVariants as report_causes
 use Rattle.vg_report.specs.declared.errors.ReportError.{ReportError}

@@ -90,6 +90,58 @@ fn all_generations_are_drawn(rt: HostRuntime) -> Result<(), Fail> {
     Ok(())
 }
 
+/// Of two packets, of which each goes to another of two neighbors.
+const PICKED: &[u8] = b"vgd report 1
+workers 1
+buffers 4096
+generations 1
+packets 2
+interface 0 pg0 tx 2
+node 0 pg-input 2
+node 1 handoff-dequeue 0
+node 2 ethernet-input 2
+node 3 ip4-input 2
+node 4 ip4-lookup 2
+node 5 ip4-rewrite 2
+node 6 interface-output 2
+node 7 interface-tx 2
+node 8 error-drop 0
+node 9 cut 0
+node 10 both 0
+packet 0 0:0 tx pg0
+packet 1 0:0 tx pg0
+end
+";
+
+#[test]
+fn all_neighbors_and_all_slots_are_drawn(rt: HostRuntime) -> Result<(), Fail> {
+    let script = b"adjacency e0 interface pg0 dst 02:00:00:00:00:10
+adjacency e1 interface pg0 dst 02:00:00:00:00:11
+route 10.1.0.0/16 via e0,e1
+route6 2001:db8::/32 via e1,e1,e0
+node cut kind dot1q-match-100
+node both kind ethernet-dual
+arc cut else both
+arc both ip4 ip4-input
+";
+    let (status, text) = drawn(&rt, &["s", "r"], script, PICKED)?;
+    assert_eq!(rt; status, 0);
+    for line in [
+        "  a0 [shape=ellipse, label=\"e0\\n02:00:00:00:00:10\"]; i0 -> a0 [style=dashed];\n",
+        "  a1 [shape=ellipse, label=\"e1\\n02:00:00:00:00:11\"]; i0 -> a1 [style=dashed];\n",
+        "  i0 [shape=house, label=\"pg0\\n02:fe:00:00:00:00\\nmtu 9000 up\\ntx 2\"]; wire -> i0 [style=dashed];\n",
+        "  n4 -> n5 [label=\"rewrite\"];\n",
+        "  n9 [label=\"cut\\ndot1q-match-100\\nvisits 0\"];\n",
+        "  n9 -> n8 [label=\"match\", color=grey, fontcolor=grey];\n",
+        "  n9 -> n10 [label=\"else\", color=grey, fontcolor=grey];\n",
+        "  n10 -> n3 [label=\"ip4\", color=grey, fontcolor=grey];\n",
+        "  n10 -> n8 [label=\"ip6\", color=grey, fontcolor=grey];\n",
+    ] {
+        assert!(rt; has(&text, line), "{line}");
+    }
+    Ok(())
+}
+
 #[test]
 fn refusals_have_their_status_and_their_line(rt: HostRuntime) -> Result<(), Fail> {
     let (status, text) = drawn(&rt, &[], b"", b"")?;

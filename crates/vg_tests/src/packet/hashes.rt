@@ -22,6 +22,8 @@ fn hashes(frame: &[u8]) -> [u32; 3] {
 fn hashes_take_the_addresses_of_their_kind(rt: HostRuntime) {
     let plain = frame([10, 1, 2, 3], [0xac, 0xd4]);
     assert_eq!(rt; hashes(&plain), [0xcacb_cbc9, 0xc0c0_c2c3, 0x0a0b_090a]);
+    let other = frame([10, 1, 2, 11], [0xac, 0xcc]);
+    assert_eq!(rt; hashes(&other), [0xcacb_cbc1, 0xc0c0_c2c3, 0x0a0b_0902]);
 }
 
 #[test]

@@ -3,7 +3,7 @@ ghost use Rattle.std.specs.Prelude.{◌≡◌};
 
 use std::process::Abort;
 use std::test::Fail;
-use vg_model::{Edit, EditLine, Edits, HashKind, Kind, Mac, Name, Prefix, RouteWord};
+use vg_model::{Edit, EditLine, Edits, HashKind, Kind, Mac, Name, Names, Prefix, RouteWord};
 use vg_script::{Blocks, Script, laws, print_script};
 
 fn name(rt: &impl Abort, text: &[u8]) -> Name
@@ -22,6 +22,8 @@ fn line(edit: Edit) -> EditLine
 #[test]
 fn every_edit_has_its_words(rt: HostRuntime) -> Result<(), Fail> {
     let alloc = rt.alloc();
+    let neighbors = vec![in alloc; name(&rt, b"east"), name(&rt, b"west")]?;
+    let neighbors = Names::from_vec(neighbors);
     let edits = vec![in alloc;
         line(Edit::Interface {
             name: name(&rt, b"pg0"),
@@ -53,7 +55,7 @@ fn every_edit_has_its_words(rt: HostRuntime) -> Result<(), Fail> {
         }),
         line(Edit::Route {
             prefix: Prefix { addr: 0, len: 0 },
-            to: RouteWord::Via(name(&rt, b"east")),
+            to: RouteWord::Via(neighbors),
         }),
         line(Edit::Route {
             prefix: Prefix {
@@ -86,7 +88,7 @@ interface lan_1.b mac 00:01:02:03:04:05 mtu 68 down
 node hand kind handoff-dst
 arc hand resume ethernet-input
 adjacency east interface pg0 dst 02:00:00:00:00:09
-route 0.0.0.0/0 via east
+route 0.0.0.0/0 via east,west
 route 10.1.0.0/16 local
 route 10.0.100.255/32 drop
 unroute 10.1.0.0/16

@@ -1,4 +1,4 @@
-use Rattle.std.proofs.Common.{◌≡◌, ◌≤◌, List, ℕ, map, take, length, refl, arith}
+use Rattle.std.proofs.Common.{List, ℕ, map, take, length, refl, arith}
 use Rattle.std.proofs.lemmas.Bool.{false≢true, iff_false}
 use Rattle.std.proofs.lemmas.List.{length-map, length-take}
 use Rattle.vg_model.specs.Journey.{Course}

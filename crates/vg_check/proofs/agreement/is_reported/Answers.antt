@@ -19,7 +19,7 @@ returns-clause-same c =
     let traces = ap (λ (ts : List (List (List ℕ))). map (λ (t : Course). map (node_name g) (trace_of t)) (take (length ts) replayed.trips)) c.as_slice.ensures in (
       (λ h.
           let all = c.all_five.ensures.0 h in
-          whole_report g replayed.last.routes report replayed last (
+          whole_report g report replayed last (
             sym c.as_slice-2.ensures ∙ (c.are_counts-interfaces.ensures.0 all.0 ∙ made_interfaces),
             sym c.as_slice-4.ensures ∙ (c.are_counts-nodes.ensures.0 all.1 ∙ made_nodes),
             sym c.as_slice-6.ensures ∙ (c.are_errors-errors.ensures.0 all.2 ∙ made_errors),
@@ -27,7 +27,7 @@ returns-clause-same c =
             sym c.as_slice.ensures ∙ (c.in_ok-traces.ensures.0 all.4 ∙ traces),
           )),
       (λ e.
-          let parts : AreParts g report replayed = report_parts g replayed.last.routes report replayed last e in
+          let parts : AreParts g report replayed = report_parts g report replayed last e in
           c.all_five.ensures.1 (
             c.are_counts-interfaces.ensures.1 (c.as_slice-2.ensures ∙ (parts.0 ∙ sym made_interfaces)),
             c.are_counts-nodes.ensures.1 (c.as_slice-4.ensures ∙ (parts.1 ∙ sym made_nodes)),

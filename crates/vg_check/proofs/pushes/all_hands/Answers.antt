@@ -1,4 +1,4 @@
-use Rattle.std.proofs.Common.{◌<◌, length, sym, arith}
+use Rattle.std.proofs.Common.{sym, arith}
 use Rattle.std.proofs.lemmas.Option.{slice_get_within, get_or_from_slice_get}
 use Rattle.vg_check.proofs.PushLemmas.{hands_none, hands_next, hands_all}
 use Rattle.vg_check.proofs.pushes.all_hands.Goals as goal

@@ -4,13 +4,12 @@ use Rattle.std.specs.List.{AllByRecursion}
 use Rattle.std.specs.List.Sorted.{IsPermutation}
 use Rattle.std.proofs.lemmas.List.{length-map}
 use Rattle.std.proofs.lemmas.Option.{same_Some}
-use Rattle.vg_model.specs.Graph.{Graph}
+use Rattle.vg_model.specs.Graph.{Graph, with_routes}
 use Rattle.vg_model.specs.declared.fates.Fate.{Fate}
 use Rattle.vg_ring.specs.declared.ends.RingTx.{RingTx}
 use Rattle.vg_counters.specs.Tally.{Tally, IsWhole, AreOneSize, HasRoom, IsTotal}
 use Rattle.vg_counters.specs.Notes.{Notes, AreOneLength, IsMerged}
 use Rattle.vg_pool.specs.Settlement.{Settlement, settlement_of}
-use Rattle.vg_plan.specs.Routed.{with_routes}
 use Rattle.vg_barrier.specs.Seats.{main_view}
 use Rattle.vg_journeys.specs.Accounts.{HandoffFrame}
 use Rattle.vg_dispatch.specs.declared.parcels.Stop.TheVariants as stops
@@ -117,15 +116,16 @@ returns-clause-outcome g c =
     let settled =
     told_is ∙ ap (λ (n : ℕ). settlement_of n c.close-pool.result.len c.in_ok-logs.field-0.caches.items) total
     ∙ settled_is _ _ _ _ _ _ ws crew c.know_few.ensures some_workers all c.in_ok-logs.field-0.caches.items c.close-pool.result.len back all_len in
-    let last : with_routes c.in_ok-last.last c.args.lead.now.master.routes ≡ c.args.lead.now.master =
-    ap (λ (g : Graph). with_routes g c.args.lead.now.master.routes) c.in_ok-last.ensures ∙ c.graph.ensures.graph in
+    let master = c.args.lead.now.master in
+    let last : with_routes c.in_ok-last.last master.routes master.routes6 ≡ master =
+    ap (λ (g : Graph). with_routes g master.routes master.routes6) c.in_ok-last.ensures ∙ c.graph.ensures.graph in
     is_outcome _ _ _ _ _ _ ws crew c.know_few.ensures some_workers all _ c.in_ok-rests.rests.items lead.is_plan
     (subst (λ (logs : List (List Fate)). IsPermutation (flat_map (λ (log : List Fate). log) logs) c.in_ok-fates.field-0.fates) kept.logs_are gathered.fates) gathered.fates_rise
     (subst (λ (lists : List (List (ℕ × List ℕ))). IsPermutation (flat_map (λ (list : List (ℕ × List ℕ)). list) lists) c.in_ok-fates.field-0.sent) kept.sent_are gathered.sent) gathered.sent_rise
     (subst (λ (parts : List Tally). IsTotal parts c.in_ok-fates.field-0.counts) kept.counters_are gathered.counts)
     (subst (λ (parts : List Notes). IsMerged parts c.in_ok-fates.field-0.trace) kept.traces_are gathered.trace)
     (c.len.ensures ∙ ap (λ (s : Settlement). s.len) settled) settled
-    (last_graph_is plan m.released c.args.lead.now.processes c.args.lead.now.master c.in_ok-last.last end.0 end.1 last) c.from_vec.ensures emptied end.2
+    (last_graph_is plan m.released c.args.lead.now.processes master c.in_ok-last.last end.0 end.1 last) c.from_vec.ensures emptied end.2
 
 pub returns-clause-rings : goal.returns-clause-rings
 returns-clause-rings g c = ap (map rest_ring) c.from_vec.ensures ∙ c.in_ok-rests.ensures.rings ∙ ends_rings c.args.workers.items c.in_ok-logs.field-0.outputs.items c.in_ok-logs.ensures.outputs_are

@@ -1,4 +1,4 @@
-use Rattle.std.proofs.Common.{List, map, ap, sym, ◌∙◌}
+use Rattle.std.proofs.Common.{List, ap, sym, ◌∙◌}
 use Rattle.std.specs.Prelude.{flat_map}
 use Rattle.vg_steps.specs.Seated.{TableId}
 use Rattle.vg_dispatch.specs.Workers.{WorkerBook}

@@ -1,5 +1,6 @@
 use Rattle.std.proofs.Common.{◌≡◌, ◌+◌, ◌-◌, ◌<◌, length, arith}
-use Rattle.vg_fib.specs.Trie.{longer_of}
+use Rattle.vg_model.specs.Route.{ip4}
+use Rattle.vg_fib.specs.Numbers.{longer_of}
 use Rattle.vg_fib.proofs.LevelLemmas.{entry_read}
 use Rattle.vg_fib.proofs.RaiseLemmas.{leaf_raised_second, child_raised_second, counted_second}
 use Rattle.vg_fib.proofs.trie.raise_second.Goals as goal
@@ -18,7 +19,7 @@ loop-place-preserved c =
     let raised = c.loop-place.invariant in
     let place = c.loop-place.place in
     let from = c.args.from in
-    let f = longer_of c.args.routes.now c.args.number in
+    let f = longer_of ip4 c.args.routes.now c.args.number in
     let old = c.args.second.now.items in
     let old_third = c.args.third.now.items in
     let here : place ≡ from + (place - from) = omega arith in

@@ -1,4 +1,4 @@
-use Rattle.std.proofs.Common.{sym, ◌∙◌}
+use Rattle.std.proofs.Common.{◌∙◌}
 use Rattle.vg_threads.specs.Starts.{started_tie}
 use Rattle.vg_threads.proofs.ThreadLemmas.{as_long, has_room}
 use Rattle.vg_threads.proofs.driving.drive.Goals as goal

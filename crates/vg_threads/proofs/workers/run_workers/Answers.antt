@@ -1,4 +1,4 @@
-use Rattle.std.proofs.Common.{◌≡◌, List, map, refl, rules, subst, sym, ◌∙◌}
+use Rattle.std.proofs.Common.{List, refl, subst, sym, ◌∙◌}
 use Rattle.vg_dispatch.specs.Workers.{WorkerBook}
 use Rattle.vg_dispatch.specs.Standing.{barrier_id}
 use Rattle.vg_threads.specs.Ties.{Tie, MainTie, IsTiedMain, AreTied, tie_of}
@@ -18,7 +18,12 @@ invariant_of-run_team g c =
     let given = c.args.workers in
     let count = sym (as_long tie given.items tied.items _ _ given.ok.0 tied.ok.0 (sym c.tie_all-workers.ensures)) ∙ sym c.len-count.ensures in
     record {
-      rooms = (search rules, has_room _ _ _ count (search rules), search rules, has_room _ _ _ count (search rules));
+      rooms = (
+        c.in_ok-started.ensures.items,
+        has_room _ _ _ count c.in_ok-started.ensures.capacity,
+        c.in_ok-joined.ensures.items,
+        has_room _ _ _ count c.in_ok-joined.ensures.capacity,
+      );
       posted = c.requires.posts ∙ as_long tie given.items tied.items _ _ given.ok.0 tied.ok.0 (sym c.tie_all-workers.ensures);
     }
 
@@ -30,7 +35,7 @@ untie_all-requires g c =
     let given = c.args.workers in
     let same = sym c.tie_all-workers.ensures ∙ sym c.run_team-workers.ensures.workers in
     let count = sym (as_long tie given.items back.items _ _ given.ok.0 back.ok.0 same) ∙ sym c.len-count.ensures in
-    record { room = (search rules, has_room _ _ _ count (search rules)) }
+    record { room = (c.in_ok-room.ensures.items, has_room _ _ _ count c.in_ok-room.ensures.capacity) }
 
 pub returns-clause-main : goal.returns-clause-main
 returns-clause-main g c =

@@ -3,7 +3,7 @@ use Rattle.std.specs.Prelude.{All}
 use Rattle.std.proofs.lemmas.List.{length-map}
 use Rattle.std.specs.List.{AllByRecursion}
 use Rattle.vg_model.specs.Visit.{ip4_visit}
-use Rattle.vg_model.specs.Journey.{longest_packet}
+use Rattle.vg_model.specs.Journey.{longest_extent}
 use Rattle.vg_plan.specs.Plan.{first_generation}
 use Rattle.vg_engine.specs.Outcomes.{IsOutcome}
 use Rattle.vg_check.specs.Output.{frames_of}
@@ -22,7 +22,7 @@ savefile_of-requires g c =
     let within =
     are_within options.workers (length (frames_of capture)) outcome.sent is.js is.are_sent
     (own plan options capture outcome c.args.hold is c.requires.options c.generations-generations.ensures.plan).0
-    (subst (AllByRecursion (λ (p : ℕ × List ℕ). length p.1 ≤ longest_packet)) is.are_sent is.short) in
+    (subst (AllByRecursion (λ (p : ℕ × List ℕ). length p.1 ≤ longest_extent)) is.are_sent is.short) in
     subst (λ n. All (λ (p : ℕ × List ℕ). (p.0 < n) × (length p.1 < 2 ^ 32)) outcome.sent) (length-map capture.packets (λ p. p.bytes)) within
 
 pub report-requires-clause-ends : goal.report-requires-clause-ends
@@ -31,7 +31,7 @@ report-requires-clause-ends g c =
     let capture = c.args.input.now.capture in
     let outcome = c.in_ok-outcome.outcome in
     let is : IsOutcome ip4_visit c.args.hold plan.graphs (first_generation plan.script capture) capture c.args.options.now outcome = c.in_ok-outcome.ensures in
-    fates_end outcome.last is.last is.last.routes is.js outcome.fates is.last_is is.are_fates is.ends
+    fates_end outcome.last is.last is.js outcome.fates is.last_is is.are_fates is.ends
 
 pub report-requires-clause-traces : goal.report-requires-clause-traces
 report-requires-clause-traces g c = traced_within c.args.input.now.plan c.args.options.now c.args.input.now.capture c.in_ok-outcome.outcome c.args.hold c.in_ok-outcome.ensures

@@ -1,4 +1,4 @@
-use Rattle.std.proofs.Common.{◌<◌, ℕ, List, length, map, arith, ◌∙◌, sym}
+use Rattle.std.proofs.Common.{◌<◌, ℕ, List, length, map, arith}
 use Rattle.std.proofs.lemmas.List.{length-map}
 use Rattle.vg_workers.proofs.OrderLemmas.{none_in_order, one_more_in_order, all_in_order, number_there}
 use Rattle.vg_workers.proofs.gather.are_sent_in_order.Goals as goal

@@ -1,4 +1,4 @@
-use Rattle.std.proofs.Common.{◌≡◌, ℕ, ◌+◌, ◌-◌, ◌<◌, ◌≤◌, length, drop, ap, ◌∙◌, arith}
+use Rattle.std.proofs.Common.{◌≡◌, ◌+◌, ◌-◌, ◌<◌, ◌≤◌, length, drop, ap, ◌∙◌, arith}
 use Rattle.vgdraw.proofs.GenerationLemmas.{one_further, one_more_generation}
 use Rattle.vgdraw.proofs.drawings.all.Goals as goal
 

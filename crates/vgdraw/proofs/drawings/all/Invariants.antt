@@ -1,4 +1,4 @@
-use Rattle.std.proofs.Common.{◌≡◌, ℕ, suc, ◌-◌, ◌≤◌, take, drop}
+use Rattle.std.proofs.Common.{◌≡◌, ◌-◌, ◌≤◌, take, drop}
 use Rattle.vg_draw.specs.Drawing.{drawing, numbered, all_of}
 use Rattle.vgdraw.proofs.drawings.all.Given as goal
 

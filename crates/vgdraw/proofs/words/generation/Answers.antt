@@ -1,5 +1,4 @@
-use Rattle.std.proofs.Common.{◌≡◌, true, subst, sym, arith}
-use Rattle.std.specs.Prelude.{Err}
+use Rattle.std.proofs.Common.{◌≡◌, true, sym, arith}
 use Rattle.vg_words.specs.Command.{is_decimal}
 use Rattle.vg_words.proofs.NumberLemmas.{no_number}
 use Rattle.vgdraw.proofs.words.generation.Goals as goal

@@ -6,7 +6,7 @@ use Rattle.vg_ring.specs.Ends.{put, rx_ring, rx_trail}
 use Rattle.vg_journeys.specs.Accounts.{HandoffFrame}
 use Rattle.vg_dispatch.specs.declared.parcels.Stop.TheVariants as stops
 use Rattle.vg_dispatch.specs.Parcels.{Fits}
-use Rattle.vg_underway.specs.OwnPackets.{own_from, captured_bytes}
+use Rattle.vg_underway.specs.OwnPackets.{own_from, captured_extent}
 use Rattle.vg_underway.specs.Rest.{IsNew}
 use Rattle.vg_underway.specs.Queues.{Queue, queue_of}
 use Rattle.vg_dispatch.proofs.NewLemmas.{nothing_held, new_keeping, new_work, map_map, own_among, all_given, all_of_each, new_account, none_by_worker}
@@ -56,7 +56,7 @@ returns-clause-worker g c =
             own = c.own_of-own.ensures.count
                 ∙ ap (λ m. length (own_from c.args.input.now.options.now.workers m c.args.input.now.capture.now.packets)) (sym c.from.ensures);
             left = c.own_of-own.ensures.bytes
-                ∙ ap (λ m. captured_bytes (own_from c.args.input.now.options.now.workers m c.args.input.now.capture.now.packets)) (sym c.from.ensures);
+                ∙ ap (λ m. captured_extent (own_from c.args.input.now.options.now.workers m c.args.input.now.capture.now.packets)) (sym c.from.ensures);
           })
           (new_account c.args.number c.len-count.result c.in-Some.bytes (min c.args.input.now.options.now.trace (length c.args.input.now.capture.now.packets)) c.from.result _ _ c.in-Ok.rooms.work c.args.cache
           (subst (λ t. IsNew c.len-count.result c.in-Some.bytes t c.in-Ok.rooms.work) (c.min-traced.ensures ∙ ap (min c.args.input.now.options.now.trace) packets) new.work) c.from.ensures c.requires.cache.1 c.requires.cache.2)

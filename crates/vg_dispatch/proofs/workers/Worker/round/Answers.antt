@@ -1,5 +1,5 @@
 use Rattle.std.proofs.Common.{◌≡◌, ◌*◌, ◌%◌, ◌<◌, ◌≤◌, ◌^◌, ℕ, List, [], ◌++◌, length, map, take, drop, refl, sym, ap, subst, ◌∙◌, arith}
-use Rattle.std.specs.Prelude.{false, is_some, min, vec_len}
+use Rattle.std.specs.Prelude.{false, ◌⊎◌, is_some, min, vec_len}
 use Rattle.std.specs.Bool.{MatchBool}
 use Rattle.std.specs.List.{AllByRecursion}
 use Rattle.std.proofs.lemmas.List.{length-map}
@@ -8,11 +8,12 @@ use Rattle.vg_underway.specs.Queues.{Queue}
 use Rattle.vg_underway.proofs.HandGroupLemmas.{all_mono}
 use Rattle.vg_underway.proofs.TakingLemmas.{taken_length, taken_rings}
 use Rattle.vg_dispatch.proofs.RoundLemmas.{setting_of, drawn_most}
-use Rattle.vg_dispatch.proofs.RoundSteps.{same_limit, refills, room_for, min_first, set_up, can_draw_here, entered_here, count_here, can_hand_here, steady_here, takes_here, round_here, keeping_here, all_mapped, made_here, mended, same_length, keeping_at, account_at, work_here, same_here}
+use Rattle.vg_dispatch.proofs.RoundSteps.{same_limit, refills, room_for, set_up, can_draw_here, entered_here, count_here, can_hand_here, steady_here, takes_here, round_here, keeping_here, all_mapped, made_here, mended, same_length, keeping_at, account_at, work_here, same_here}
 use Rattle.vg_model.specs.PoolBook.{CacheBook}
 use Rattle.vg_frame.specs.Placed.{count}
 use Rattle.vg_underway.specs.Peers.{by_worker}
-use Rattle.vg_underway.specs.OwnPackets.{own_from}
+use Rattle.vg_underway.specs.OwnPackets.{own_from, frames_of}
+use Rattle.vg_underway.specs.Draws.{LacksBuffers}
 use Rattle.vg_underway.specs.Underway.{stationed}
 use Rattle.vg_underway.specs.Hands.{IsDispatched}
 use Rattle.vg_underway.specs.Outlets.{Outlet, outlet_of, no_outlet, most_in_round, AreTicked, PushesFrames, PushesOver}
@@ -49,13 +50,13 @@ draw_own-drew-requires-clause-can g c =
     let k = c.self.invariant.0 in
     let len_is = c.len-2.ensures in
     let inputs_is : c.len-2.result ≡ length c.self.inside.inputs.items = len_is ∙ sym c.as_mut_slice-2.ensures.len ∙ ap length c.as_mut_slice-2.ensures.value in
-    let u = set_up c.args.input.now.capture.now c.args.input.now.options.now c.self.view_is c.requires.work.made c.may_go-goes.result c.may_draw-draws.result c.unwrap_or.result c.where_goes-tried.result c.len-2.result c.len.result c.refill_for.result c.where_goes.result c.len-3.result
-    c.min-most.result c.self.inside.inputs.items c.self.inside.cache c.refill_for.new.cache c.args.input.now.capture.now.packets k.range k.inputs_each refl
+    let u = set_up c.args.input.now.capture.now c.args.input.now.options.now c.self.view_is c.requires.work.made c.may_go-goes.result c.may_draw-draws.result c.unwrap_or.result c.where_goes-tried.result c.len-2.result c.len.result c.refill_for.result
+    c.where_goes-most.result c.self.inside.inputs.items c.self.inside.cache c.refill_for.new.cache c.args.input.now.capture.now.packets k.range k.inputs_each refl
     (same_limit c.unwrap_or.result _ _ _ c.unwrap_or.ensures c.requires.limit).1 c.where_goes-tried.ensures (λ h. (c.may_go-goes.ensures.0 h).0) inputs_is
-    c.len.ensures.len (refills c.self.inside.cache c.refill_for.result c.refill_for.ensures.few).0 (refills c.self.inside.cache c.refill_for.result c.refill_for.ensures.few).1 c.refill_for.ensures.cache c.len-3.ensures.len c.len-3.ensures.room c.where_goes.ensures c.min-most.ensures in
+    c.len.ensures.len (refills c.self.inside.cache c.refill_for.result c.refill_for.ensures.few).0 (refills c.self.inside.cache c.refill_for.result c.refill_for.ensures.few).1 c.refill_for.ensures.cache c.len.ensures.room c.where_goes-most.ensures in
     let accepted : List (List HandoffFrame) = map (λ o. g.H.Handoff.accepted o.handoff) c.self.inside.outputs.items in
     let slots : List ℕ = map (λ o. g.H.Handoff.slots o.handoff) c.self.inside.outputs.items in
-    can_draw_here g.K.KindSet.meaning c.args.fork.now.graph c.args.fork.now.generation c.self.inside.number c.self.inside.packets c.self.inside.bytes c.self.inside.mark c.self.inside.own c.self.inside.left c.self.inside.taken c.unwrap_or.result c.min-most.result
+    can_draw_here g.K.KindSet.meaning c.args.fork.now.graph c.args.fork.now.generation c.self.inside.number c.self.inside.packets c.self.inside.bytes c.self.inside.mark c.self.inside.own c.self.inside.left c.self.inside.taken c.unwrap_or.result c.where_goes-most.result
     c.where_goes-tried.result c.self.inside.options c.self.inside.work c.take_frames-came.new.self c.self.inside.sorted c.self.inside.groups.items c.self.inside.inputs.items c.as_mut_slice-2.result.now c.take_frames-came.new.inputs accepted slots
     c.self.inside.cache c.refill_for.new.cache c.args.input.now.capture.now.packets c.take_frames-came.result k c.take_frames-came.ensures u
 
@@ -64,10 +65,10 @@ overflow_sub-self g c =
     let k = c.self.invariant.0 in
     let len_is = c.len-2.ensures in
     let inputs_is : c.len-2.result ≡ length c.self.inside.inputs.items = len_is ∙ sym c.as_mut_slice-2.ensures.len ∙ ap length c.as_mut_slice-2.ensures.value in
-    let u = set_up c.args.input.now.capture.now c.args.input.now.options.now c.self.view_is c.requires.work.made c.may_go-goes.result c.may_draw-draws.result c.unwrap_or.result c.where_goes-tried.result c.len-2.result c.len.result c.refill_for.result c.where_goes.result c.len-3.result
-    c.min-most.result c.self.inside.inputs.items c.self.inside.cache c.refill_for.new.cache c.args.input.now.capture.now.packets k.range k.inputs_each refl
+    let u = set_up c.args.input.now.capture.now c.args.input.now.options.now c.self.view_is c.requires.work.made c.may_go-goes.result c.may_draw-draws.result c.unwrap_or.result c.where_goes-tried.result c.len-2.result c.len.result c.refill_for.result
+    c.where_goes-most.result c.self.inside.inputs.items c.self.inside.cache c.refill_for.new.cache c.args.input.now.capture.now.packets k.range k.inputs_each refl
     (same_limit c.unwrap_or.result _ _ _ c.unwrap_or.ensures c.requires.limit).1 c.where_goes-tried.ensures (λ h. (c.may_go-goes.ensures.0 h).0) inputs_is
-    c.len.ensures.len (refills c.self.inside.cache c.refill_for.result c.refill_for.ensures.few).0 (refills c.self.inside.cache c.refill_for.result c.refill_for.ensures.few).1 c.refill_for.ensures.cache c.len-3.ensures.len c.len-3.ensures.room c.where_goes.ensures c.min-most.ensures in
+    c.len.ensures.len (refills c.self.inside.cache c.refill_for.result c.refill_for.ensures.few).0 (refills c.self.inside.cache c.refill_for.result c.refill_for.ensures.few).1 c.refill_for.ensures.cache c.len.ensures.room c.where_goes-most.ensures in
     let some : 0 < c.self.inside.options.workers = (let h = k.number_within in omega (arith, h)) in
     let most = drawn_most c.self.inside.options.workers c.self.inside.mark c.unwrap_or.result c.draw_own-drew.result.count c.args.input.now.capture.now.packets some u.within c.draw_own-drew.ensures.below in
     let own_is = u.own_is in
@@ -83,29 +84,28 @@ dispatch_all-requires-clause-can g c =
     let k = c.self.invariant.0 in
     let len_is = c.len-2.ensures in
     let inputs_is : c.len-2.result ≡ length c.self.inside.inputs.items = len_is ∙ sym c.as_mut_slice-2.ensures.len ∙ ap length c.as_mut_slice-2.ensures.value in
-    let u = set_up c.args.input.now.capture.now c.args.input.now.options.now c.self.view_is c.requires.work.made c.may_go-goes.result c.may_draw-draws.result c.unwrap_or.result c.where_goes-tried.result c.len-2.result c.len.result c.refill_for.result c.where_goes.result c.len-3.result
-    c.min-most.result c.self.inside.inputs.items c.self.inside.cache c.refill_for.new.cache c.args.input.now.capture.now.packets k.range k.inputs_each refl
+    let u = set_up c.args.input.now.capture.now c.args.input.now.options.now c.self.view_is c.requires.work.made c.may_go-goes.result c.may_draw-draws.result c.unwrap_or.result c.where_goes-tried.result c.len-2.result c.len.result c.refill_for.result
+    c.where_goes-most.result c.self.inside.inputs.items c.self.inside.cache c.refill_for.new.cache c.args.input.now.capture.now.packets k.range k.inputs_each refl
     (same_limit c.unwrap_or.result _ _ _ c.unwrap_or.ensures c.requires.limit).1 c.where_goes-tried.ensures (λ h. (c.may_go-goes.ensures.0 h).0) inputs_is
-    c.len.ensures.len (refills c.self.inside.cache c.refill_for.result c.refill_for.ensures.few).0 (refills c.self.inside.cache c.refill_for.result c.refill_for.ensures.few).1 c.refill_for.ensures.cache c.len-3.ensures.len c.len-3.ensures.room c.where_goes.ensures c.min-most.ensures in
+    c.len.ensures.len (refills c.self.inside.cache c.refill_for.result c.refill_for.ensures.few).0 (refills c.self.inside.cache c.refill_for.result c.refill_for.ensures.few).1 c.refill_for.ensures.cache c.len.ensures.room c.where_goes-most.ensures in
     let accepted : List (List HandoffFrame) = map (λ o. g.H.Handoff.accepted o.handoff) c.self.inside.outputs.items in
     let slots : List ℕ = map (λ o. g.H.Handoff.slots o.handoff) c.self.inside.outputs.items in
-    let entered = entered_here g.K.KindSet.meaning c.args.fork.now.graph c.args.fork.now.generation c.self.inside.number c.self.inside.packets c.self.inside.bytes c.self.inside.mark c.self.inside.own c.self.inside.left c.self.inside.taken c.unwrap_or.result c.min-most.result
+    let entered = entered_here g.K.KindSet.meaning c.args.fork.now.graph c.args.fork.now.generation c.self.inside.number c.self.inside.packets c.self.inside.bytes c.self.inside.mark c.self.inside.own c.self.inside.left c.self.inside.taken c.unwrap_or.result c.where_goes-most.result
     c.where_goes-tried.result c.self.inside.options c.self.inside.work c.take_frames-came.new.self c.self.inside.sorted c.self.inside.groups.items c.self.inside.inputs.items c.as_mut_slice-2.result.now c.take_frames-came.new.inputs accepted slots
     c.self.inside.cache c.refill_for.new.cache c.args.input.now.capture.now.packets c.take_frames-came.result k c.take_frames-came.ensures u c.draw_own-drew.result.count c.draw_own-drew.new.self c.draw_own-drew.new.cache c.draw_own-drew.ensures.drawn in
     let outs : c.as_mut_slice-4.result.now ≡ c.tick_all.new.outputs = c.as_mut_slice-4.ensures.value ∙ mended (λ o. g.H.Handoff.accepted o.handoff) c.self.inside.outputs.len c.as_mut_slice.result.now
     c.self.inside.outputs.items c.tick_all.new.outputs c.as_mut_slice.ensures.value c.as_mut_slice.ensures.len c.tick_all.ensures.accepted in
     let accs : map (λ o. g.H.Handoff.accepted o.handoff) c.as_mut_slice-4.result.now ≡ accepted = ap (map (λ o. g.H.Handoff.accepted o.handoff)) outs ∙ c.tick_all.ensures.accepted ∙ ap (map (λ o. g.H.Handoff.accepted o.handoff)) c.as_mut_slice.ensures.value in
     let slo : map (λ o. g.H.Handoff.slots o.handoff) c.as_mut_slice-4.result.now ≡ slots = ap (map (λ o. g.H.Handoff.slots o.handoff)) outs ∙ c.tick_all.ensures.slots ∙ ap (map (λ o. g.H.Handoff.slots o.handoff)) c.as_mut_slice.ensures.value in
-    let live = count_here g.K.KindSet.meaning c.args.fork.now.graph c.args.fork.now.generation c.self.inside.number c.self.inside.packets c.self.inside.bytes c.self.inside.mark c.self.inside.own c.self.inside.left c.self.inside.taken c.unwrap_or.result c.min-most.result
+    let live = count_here g.K.KindSet.meaning c.args.fork.now.graph c.args.fork.now.generation c.self.inside.number c.self.inside.packets c.self.inside.bytes c.self.inside.mark c.self.inside.own c.self.inside.left c.self.inside.taken c.unwrap_or.result c.where_goes-most.result
     c.where_goes-tried.result c.self.inside.options c.self.inside.work c.take_frames-came.new.self c.self.inside.sorted c.self.inside.groups.items c.self.inside.inputs.items c.as_mut_slice-2.result.now c.take_frames-came.new.inputs accepted slots
     c.self.inside.cache c.refill_for.new.cache c.args.input.now.capture.now.packets c.take_frames-came.result k c.take_frames-came.ensures c.draw_own-drew.result.count c.draw_own-drew.new.self c.draw_own-drew.new.cache c.draw_own-drew.ensures.most entered in
-    let most_is = c.min-most.ensures in let first = min_first c.where_goes.result c.len-3.result in
     let rooms : List ℕ = map (λ o. g.H.Handoff.free_room o.handoff) c.as_mut_slice-4.result.now in
-    let room = room_for c.may_go-goes.result c.may_draw-draws.result c.where_goes-tried.result c.len-2.result c.where_goes.result c.self.inside.options.burst c.self.inside.options.workers (count c.draw_own-drew.new.self.memory) rooms c.where_goes-tried.ensures
-    c.where_goes.ensures (λ h. (c.may_draw-draws.ensures.0 h).0) (omega (arith, live, most_is, first)) k.range.burst.1 (let h = k.inputs_each in omega (arith, h, inputs_is))
+    let room = room_for c.may_go-goes.result c.may_draw-draws.result c.where_goes-tried.result c.len-2.result c.where_goes-most.result c.self.inside.options.burst c.self.inside.options.workers (count c.draw_own-drew.new.self.memory) rooms c.where_goes-tried.ensures
+    c.where_goes-most.ensures (λ h. (c.may_draw-draws.ensures.0 h).0) (omega (arith, live)) k.range.burst.1 (let h = k.inputs_each in omega (arith, h, inputs_is))
     (λ yes. all_mapped (λ o. g.H.Handoff.free_room o.handoff) (λ room. 256 * c.self.inside.options.workers ≤ room) c.as_mut_slice-4.result.now
     (subst (AllByRecursion (λ o. 256 * c.self.inside.options.workers ≤ g.H.Handoff.free_room o.handoff)) (c.as_slice.ensures.value ∙ sym c.as_mut_slice-4.ensures.value) (c.may_go-goes.ensures.0 yes).1)) in
-    can_hand_here g.K.KindSet.meaning c.args.fork.now.graph c.args.fork.now.generation c.self.inside.number c.self.inside.packets c.self.inside.bytes c.self.inside.mark c.self.inside.own c.self.inside.left c.self.inside.taken c.unwrap_or.result c.min-most.result
+    can_hand_here g.K.KindSet.meaning c.args.fork.now.graph c.args.fork.now.generation c.self.inside.number c.self.inside.packets c.self.inside.bytes c.self.inside.mark c.self.inside.own c.self.inside.left c.self.inside.taken c.unwrap_or.result c.where_goes-most.result
     c.where_goes-tried.result c.self.inside.options c.self.inside.work c.take_frames-came.new.self c.self.inside.sorted c.self.inside.groups.items c.self.inside.inputs.items c.as_mut_slice-2.result.now c.take_frames-came.new.inputs accepted slots
     c.self.inside.cache c.refill_for.new.cache c.args.input.now.capture.now.packets c.take_frames-came.result k u c.draw_own-drew.new.self (map (λ o. g.H.Handoff.accepted o.handoff) c.as_mut_slice-4.result.now)
     (map (λ o. g.H.Handoff.slots o.handoff) c.as_mut_slice-4.result.now) rooms live room accs slo
@@ -115,18 +115,18 @@ dispatch_all-requires-clause-steady g c =
     let k = c.self.invariant.0 in
     let len_is = c.len-2.ensures in
     let inputs_is : c.len-2.result ≡ length c.self.inside.inputs.items = len_is ∙ sym c.as_mut_slice-2.ensures.len ∙ ap length c.as_mut_slice-2.ensures.value in
-    let u = set_up c.args.input.now.capture.now c.args.input.now.options.now c.self.view_is c.requires.work.made c.may_go-goes.result c.may_draw-draws.result c.unwrap_or.result c.where_goes-tried.result c.len-2.result c.len.result c.refill_for.result c.where_goes.result c.len-3.result
-    c.min-most.result c.self.inside.inputs.items c.self.inside.cache c.refill_for.new.cache c.args.input.now.capture.now.packets k.range k.inputs_each refl
+    let u = set_up c.args.input.now.capture.now c.args.input.now.options.now c.self.view_is c.requires.work.made c.may_go-goes.result c.may_draw-draws.result c.unwrap_or.result c.where_goes-tried.result c.len-2.result c.len.result c.refill_for.result
+    c.where_goes-most.result c.self.inside.inputs.items c.self.inside.cache c.refill_for.new.cache c.args.input.now.capture.now.packets k.range k.inputs_each refl
     (same_limit c.unwrap_or.result _ _ _ c.unwrap_or.ensures c.requires.limit).1 c.where_goes-tried.ensures (λ h. (c.may_go-goes.ensures.0 h).0) inputs_is
-    c.len.ensures.len (refills c.self.inside.cache c.refill_for.result c.refill_for.ensures.few).0 (refills c.self.inside.cache c.refill_for.result c.refill_for.ensures.few).1 c.refill_for.ensures.cache c.len-3.ensures.len c.len-3.ensures.room c.where_goes.ensures c.min-most.ensures in
+    c.len.ensures.len (refills c.self.inside.cache c.refill_for.result c.refill_for.ensures.few).0 (refills c.self.inside.cache c.refill_for.result c.refill_for.ensures.few).1 c.refill_for.ensures.cache c.len.ensures.room c.where_goes-most.ensures in
     let accepted : List (List HandoffFrame) = map (λ o. g.H.Handoff.accepted o.handoff) c.self.inside.outputs.items in
     let slots : List ℕ = map (λ o. g.H.Handoff.slots o.handoff) c.self.inside.outputs.items in
     let station : Station = record { workers = c.self.inside.options.workers; worker = c.self.inside.number; slots = c.self.inside.options.queue } in
     let ok = setting_of g.K.KindSet.meaning c.args.input.now.plan.now c.args.fork.now.graph c.args.fork.now.generation station g.met.K.KindSet.lawful c.requires.work.planned c.requires.graph in
-    let entered = entered_here g.K.KindSet.meaning c.args.fork.now.graph c.args.fork.now.generation c.self.inside.number c.self.inside.packets c.self.inside.bytes c.self.inside.mark c.self.inside.own c.self.inside.left c.self.inside.taken c.unwrap_or.result c.min-most.result
+    let entered = entered_here g.K.KindSet.meaning c.args.fork.now.graph c.args.fork.now.generation c.self.inside.number c.self.inside.packets c.self.inside.bytes c.self.inside.mark c.self.inside.own c.self.inside.left c.self.inside.taken c.unwrap_or.result c.where_goes-most.result
     c.where_goes-tried.result c.self.inside.options c.self.inside.work c.take_frames-came.new.self c.self.inside.sorted c.self.inside.groups.items c.self.inside.inputs.items c.as_mut_slice-2.result.now c.take_frames-came.new.inputs accepted slots
     c.self.inside.cache c.refill_for.new.cache c.args.input.now.capture.now.packets c.take_frames-came.result k c.take_frames-came.ensures u c.draw_own-drew.result.count c.draw_own-drew.new.self c.draw_own-drew.new.cache c.draw_own-drew.ensures.drawn in
-    steady_here g.K.KindSet.meaning c.args.fork.now.graph c.args.fork.now.generation c.self.inside.number c.self.inside.packets c.self.inside.bytes c.self.inside.mark c.self.inside.own c.self.inside.left c.self.inside.taken c.unwrap_or.result c.min-most.result
+    steady_here g.K.KindSet.meaning c.args.fork.now.graph c.args.fork.now.generation c.self.inside.number c.self.inside.packets c.self.inside.bytes c.self.inside.mark c.self.inside.own c.self.inside.left c.self.inside.taken c.unwrap_or.result c.where_goes-most.result
     c.where_goes-tried.result c.self.inside.options c.self.inside.work c.take_frames-came.new.self c.self.inside.sorted c.self.inside.groups.items c.self.inside.inputs.items c.as_mut_slice-2.result.now c.take_frames-came.new.inputs accepted slots
     c.self.inside.cache c.refill_for.new.cache c.args.input.now.capture.now.packets c.take_frames-came.result k c.take_frames-came.ensures u ok c.draw_own-drew.result.count c.draw_own-drew.new.self c.draw_own-drew.new.cache c.draw_own-drew.ensures.most c.draw_own-drew.ensures.below entered
 
@@ -135,16 +135,16 @@ dispatch_all-requires-clause-takes g c =
     let k = c.self.invariant.0 in
     let len_is = c.len-2.ensures in
     let inputs_is : c.len-2.result ≡ length c.self.inside.inputs.items = len_is ∙ sym c.as_mut_slice-2.ensures.len ∙ ap length c.as_mut_slice-2.ensures.value in
-    let u = set_up c.args.input.now.capture.now c.args.input.now.options.now c.self.view_is c.requires.work.made c.may_go-goes.result c.may_draw-draws.result c.unwrap_or.result c.where_goes-tried.result c.len-2.result c.len.result c.refill_for.result c.where_goes.result c.len-3.result
-    c.min-most.result c.self.inside.inputs.items c.self.inside.cache c.refill_for.new.cache c.args.input.now.capture.now.packets k.range k.inputs_each refl
+    let u = set_up c.args.input.now.capture.now c.args.input.now.options.now c.self.view_is c.requires.work.made c.may_go-goes.result c.may_draw-draws.result c.unwrap_or.result c.where_goes-tried.result c.len-2.result c.len.result c.refill_for.result
+    c.where_goes-most.result c.self.inside.inputs.items c.self.inside.cache c.refill_for.new.cache c.args.input.now.capture.now.packets k.range k.inputs_each refl
     (same_limit c.unwrap_or.result _ _ _ c.unwrap_or.ensures c.requires.limit).1 c.where_goes-tried.ensures (λ h. (c.may_go-goes.ensures.0 h).0) inputs_is
-    c.len.ensures.len (refills c.self.inside.cache c.refill_for.result c.refill_for.ensures.few).0 (refills c.self.inside.cache c.refill_for.result c.refill_for.ensures.few).1 c.refill_for.ensures.cache c.len-3.ensures.len c.len-3.ensures.room c.where_goes.ensures c.min-most.ensures in
+    c.len.ensures.len (refills c.self.inside.cache c.refill_for.result c.refill_for.ensures.few).0 (refills c.self.inside.cache c.refill_for.result c.refill_for.ensures.few).1 c.refill_for.ensures.cache c.len.ensures.room c.where_goes-most.ensures in
     let accepted : List (List HandoffFrame) = map (λ o. g.H.Handoff.accepted o.handoff) c.self.inside.outputs.items in
     let slots : List ℕ = map (λ o. g.H.Handoff.slots o.handoff) c.self.inside.outputs.items in
-    let entered = entered_here g.K.KindSet.meaning c.args.fork.now.graph c.args.fork.now.generation c.self.inside.number c.self.inside.packets c.self.inside.bytes c.self.inside.mark c.self.inside.own c.self.inside.left c.self.inside.taken c.unwrap_or.result c.min-most.result
+    let entered = entered_here g.K.KindSet.meaning c.args.fork.now.graph c.args.fork.now.generation c.self.inside.number c.self.inside.packets c.self.inside.bytes c.self.inside.mark c.self.inside.own c.self.inside.left c.self.inside.taken c.unwrap_or.result c.where_goes-most.result
     c.where_goes-tried.result c.self.inside.options c.self.inside.work c.take_frames-came.new.self c.self.inside.sorted c.self.inside.groups.items c.self.inside.inputs.items c.as_mut_slice-2.result.now c.take_frames-came.new.inputs accepted slots
     c.self.inside.cache c.refill_for.new.cache c.args.input.now.capture.now.packets c.take_frames-came.result k c.take_frames-came.ensures u c.draw_own-drew.result.count c.draw_own-drew.new.self c.draw_own-drew.new.cache c.draw_own-drew.ensures.drawn in
-    takes_here g.K.KindSet.meaning c.args.fork.now.graph c.args.fork.now.generation c.self.inside.number c.self.inside.packets c.self.inside.bytes c.self.inside.mark c.self.inside.own c.self.inside.left c.self.inside.taken c.unwrap_or.result c.min-most.result
+    takes_here g.K.KindSet.meaning c.args.fork.now.graph c.args.fork.now.generation c.self.inside.number c.self.inside.packets c.self.inside.bytes c.self.inside.mark c.self.inside.own c.self.inside.left c.self.inside.taken c.unwrap_or.result c.where_goes-most.result
     c.where_goes-tried.result c.self.inside.options c.self.inside.work c.take_frames-came.new.self c.self.inside.sorted c.self.inside.groups.items c.self.inside.inputs.items c.as_mut_slice-2.result.now c.take_frames-came.new.inputs accepted slots
     c.self.inside.cache c.refill_for.new.cache c.args.input.now.capture.now.packets c.take_frames-came.result k c.take_frames-came.ensures u c.draw_own-drew.result.count c.draw_own-drew.new.self c.draw_own-drew.new.cache c.draw_own-drew.ensures.most c.draw_own-drew.ensures.below entered
 
@@ -153,15 +153,15 @@ invariant_of-self g c =
     let k = c.self.invariant.0 in
     let len_is = c.len-2.ensures in
     let inputs_is : c.len-2.result ≡ length c.self.inside.inputs.items = len_is ∙ sym c.as_mut_slice-2.ensures.len ∙ ap length c.as_mut_slice-2.ensures.value in
-    let u = set_up c.args.input.now.capture.now c.args.input.now.options.now c.self.view_is c.requires.work.made c.may_go-goes.result c.may_draw-draws.result c.unwrap_or.result c.where_goes-tried.result c.len-2.result c.len.result c.refill_for.result c.where_goes.result c.len-3.result
-    c.min-most.result c.self.inside.inputs.items c.self.inside.cache c.refill_for.new.cache c.args.input.now.capture.now.packets k.range k.inputs_each refl
+    let u = set_up c.args.input.now.capture.now c.args.input.now.options.now c.self.view_is c.requires.work.made c.may_go-goes.result c.may_draw-draws.result c.unwrap_or.result c.where_goes-tried.result c.len-2.result c.len.result c.refill_for.result
+    c.where_goes-most.result c.self.inside.inputs.items c.self.inside.cache c.refill_for.new.cache c.args.input.now.capture.now.packets k.range k.inputs_each refl
     (same_limit c.unwrap_or.result _ _ _ c.unwrap_or.ensures c.requires.limit).1 c.where_goes-tried.ensures (λ h. (c.may_go-goes.ensures.0 h).0) inputs_is
-    c.len.ensures.len (refills c.self.inside.cache c.refill_for.result c.refill_for.ensures.few).0 (refills c.self.inside.cache c.refill_for.result c.refill_for.ensures.few).1 c.refill_for.ensures.cache c.len-3.ensures.len c.len-3.ensures.room c.where_goes.ensures c.min-most.ensures in
+    c.len.ensures.len (refills c.self.inside.cache c.refill_for.result c.refill_for.ensures.few).0 (refills c.self.inside.cache c.refill_for.result c.refill_for.ensures.few).1 c.refill_for.ensures.cache c.len.ensures.room c.where_goes-most.ensures in
     let accepted : List (List HandoffFrame) = map (λ o. g.H.Handoff.accepted o.handoff) c.self.inside.outputs.items in
     let slots : List ℕ = map (λ o. g.H.Handoff.slots o.handoff) c.self.inside.outputs.items in
     let station : Station = record { workers = c.self.inside.options.workers; worker = c.self.inside.number; slots = c.self.inside.options.queue } in
     let ok = setting_of g.K.KindSet.meaning c.args.input.now.plan.now c.args.fork.now.graph c.args.fork.now.generation station g.met.K.KindSet.lawful c.requires.work.planned c.requires.graph in
-    let entered = entered_here g.K.KindSet.meaning c.args.fork.now.graph c.args.fork.now.generation c.self.inside.number c.self.inside.packets c.self.inside.bytes c.self.inside.mark c.self.inside.own c.self.inside.left c.self.inside.taken c.unwrap_or.result c.min-most.result
+    let entered = entered_here g.K.KindSet.meaning c.args.fork.now.graph c.args.fork.now.generation c.self.inside.number c.self.inside.packets c.self.inside.bytes c.self.inside.mark c.self.inside.own c.self.inside.left c.self.inside.taken c.unwrap_or.result c.where_goes-most.result
     c.where_goes-tried.result c.self.inside.options c.self.inside.work c.take_frames-came.new.self c.self.inside.sorted c.self.inside.groups.items c.self.inside.inputs.items c.as_mut_slice-2.result.now c.take_frames-came.new.inputs accepted slots
     c.self.inside.cache c.refill_for.new.cache c.args.input.now.capture.now.packets c.take_frames-came.result k c.take_frames-came.ensures u c.draw_own-drew.result.count c.draw_own-drew.new.self c.draw_own-drew.new.cache c.draw_own-drew.ensures.drawn in
     let outs : c.as_mut_slice-4.result.now ≡ c.tick_all.new.outputs = c.as_mut_slice-4.ensures.value ∙ mended (λ o. g.H.Handoff.accepted o.handoff) c.self.inside.outputs.len c.as_mut_slice.result.now
@@ -176,7 +176,7 @@ invariant_of-self g c =
     c.draw_own-drew.new.self.fates.items c.dispatch_all.new.outputs c.dispatch_all.new.self.fates.items in
     let done = subst (λ xs. IsDispatched (stationed g.K.KindSet.meaning c.args.fork.now.graph c.args.fork.now.generation station) c.self.inside.options.queue g.H.Handoff.LOSSLESS told c.draw_own-drew.new.self c.draw_own-drew.new.cache
     (by_worker c.self.inside.number [] xs) c.dispatch_all.new.self c.dispatch_all.new.cache (by_worker c.self.inside.number [] (map (λ o. g.H.Handoff.accepted o.handoff) c.dispatch_all.new.outputs))) accs c.dispatch_all.ensures.dispatched in
-    let r = round_here g.K.KindSet.meaning c.args.fork.now.graph c.args.fork.now.generation c.self.inside.number c.self.inside.packets c.self.inside.bytes c.self.inside.mark c.self.inside.own c.self.inside.left c.self.inside.taken c.unwrap_or.result c.min-most.result
+    let r = round_here g.K.KindSet.meaning c.args.fork.now.graph c.args.fork.now.generation c.self.inside.number c.self.inside.packets c.self.inside.bytes c.self.inside.mark c.self.inside.own c.self.inside.left c.self.inside.taken c.unwrap_or.result c.where_goes-most.result
     c.where_goes-tried.result c.self.inside.options c.self.inside.work c.take_frames-came.new.self c.self.inside.sorted c.self.inside.groups.items c.self.inside.inputs.items c.as_mut_slice-2.result.now c.take_frames-came.new.inputs accepted slots
     c.self.inside.cache c.refill_for.new.cache c.args.input.now.capture.now.packets c.take_frames-came.result (λ (settled : List Settled). Unit {0}) g.H.Handoff.LOSSLESS c.args.input.now.plan.now
     c.args.input.now.capture.now g.met.K.KindSet.lawful c.requires.graph (same_limit c.unwrap_or.result _ _ _ c.unwrap_or.ensures c.requires.limit)
@@ -194,7 +194,7 @@ invariant_of-self g c =
     (ap (map (λ x. x)) (c.dispatch_all.ensures.empty.1 ∙ sym (c.as_mut_slice-3.ensures.value ∙ k.groups_none))) in
     let allocated : c.relieve.new.cache.allocated ≡ c.dispatch_all.new.cache.allocated = ap (λ (b : CacheBook). b.allocated) c.relieve.ensures.cache in
     let freed : c.relieve.new.cache.freed ≡ c.dispatch_all.new.cache.freed = ap (λ (b : CacheBook). b.freed) c.relieve.ensures.cache in
-    let keeps = keeping_here g.K.KindSet.meaning c.args.fork.now.graph c.args.fork.now.generation c.self.inside.number c.self.inside.packets c.self.inside.bytes c.self.inside.mark c.self.inside.own c.self.inside.left c.self.inside.taken c.unwrap_or.result c.min-most.result
+    let keeps = keeping_here g.K.KindSet.meaning c.args.fork.now.graph c.args.fork.now.generation c.self.inside.number c.self.inside.packets c.self.inside.bytes c.self.inside.mark c.self.inside.own c.self.inside.left c.self.inside.taken c.unwrap_or.result c.where_goes-most.result
     c.where_goes-tried.result c.self.inside.options c.self.inside.work c.take_frames-came.new.self c.self.inside.sorted c.self.inside.groups.items c.self.inside.inputs.items c.as_mut_slice-2.result.now c.take_frames-came.new.inputs accepted slots
     c.self.inside.cache c.refill_for.new.cache c.args.input.now.capture.now.packets c.take_frames-came.result g.H.Handoff.LOSSLESS c.args.input.now.plan.now c.args.input.now.capture.now c.requires.work.planned made.packets made.bytes refl k u c.take_frames-came.ensures.took
     c.draw_own-drew.result.count c.draw_own-drew.result.bytes c.dispatch_all.new.self c.dispatch_all.new.cache c.relieve.new.cache (map (λ o. g.H.Handoff.accepted o.handoff) c.dispatch_all.new.outputs) (map (λ o. g.H.Handoff.slots o.handoff) c.dispatch_all.new.outputs) c.dispatch_all.new.sorted
@@ -212,15 +212,15 @@ returns-clause-work g c =
     let k = c.self.invariant.0 in
     let len_is = c.len-2.ensures in
     let inputs_is : c.len-2.result ≡ length c.self.inside.inputs.items = len_is ∙ sym c.as_mut_slice-2.ensures.len ∙ ap length c.as_mut_slice-2.ensures.value in
-    let u = set_up c.args.input.now.capture.now c.args.input.now.options.now c.self.view_is c.requires.work.made c.may_go-goes.result c.may_draw-draws.result c.unwrap_or.result c.where_goes-tried.result c.len-2.result c.len.result c.refill_for.result c.where_goes.result c.len-3.result
-    c.min-most.result c.self.inside.inputs.items c.self.inside.cache c.refill_for.new.cache c.args.input.now.capture.now.packets k.range k.inputs_each refl
+    let u = set_up c.args.input.now.capture.now c.args.input.now.options.now c.self.view_is c.requires.work.made c.may_go-goes.result c.may_draw-draws.result c.unwrap_or.result c.where_goes-tried.result c.len-2.result c.len.result c.refill_for.result
+    c.where_goes-most.result c.self.inside.inputs.items c.self.inside.cache c.refill_for.new.cache c.args.input.now.capture.now.packets k.range k.inputs_each refl
     (same_limit c.unwrap_or.result _ _ _ c.unwrap_or.ensures c.requires.limit).1 c.where_goes-tried.ensures (λ h. (c.may_go-goes.ensures.0 h).0) inputs_is
-    c.len.ensures.len (refills c.self.inside.cache c.refill_for.result c.refill_for.ensures.few).0 (refills c.self.inside.cache c.refill_for.result c.refill_for.ensures.few).1 c.refill_for.ensures.cache c.len-3.ensures.len c.len-3.ensures.room c.where_goes.ensures c.min-most.ensures in
+    c.len.ensures.len (refills c.self.inside.cache c.refill_for.result c.refill_for.ensures.few).0 (refills c.self.inside.cache c.refill_for.result c.refill_for.ensures.few).1 c.refill_for.ensures.cache c.len.ensures.room c.where_goes-most.ensures in
     let accepted : List (List HandoffFrame) = map (λ o. g.H.Handoff.accepted o.handoff) c.self.inside.outputs.items in
     let slots : List ℕ = map (λ o. g.H.Handoff.slots o.handoff) c.self.inside.outputs.items in
     let station : Station = record { workers = c.self.inside.options.workers; worker = c.self.inside.number; slots = c.self.inside.options.queue } in
     let ok = setting_of g.K.KindSet.meaning c.args.input.now.plan.now c.args.fork.now.graph c.args.fork.now.generation station g.met.K.KindSet.lawful c.requires.work.planned c.requires.graph in
-    let entered = entered_here g.K.KindSet.meaning c.args.fork.now.graph c.args.fork.now.generation c.self.inside.number c.self.inside.packets c.self.inside.bytes c.self.inside.mark c.self.inside.own c.self.inside.left c.self.inside.taken c.unwrap_or.result c.min-most.result
+    let entered = entered_here g.K.KindSet.meaning c.args.fork.now.graph c.args.fork.now.generation c.self.inside.number c.self.inside.packets c.self.inside.bytes c.self.inside.mark c.self.inside.own c.self.inside.left c.self.inside.taken c.unwrap_or.result c.where_goes-most.result
     c.where_goes-tried.result c.self.inside.options c.self.inside.work c.take_frames-came.new.self c.self.inside.sorted c.self.inside.groups.items c.self.inside.inputs.items c.as_mut_slice-2.result.now c.take_frames-came.new.inputs accepted slots
     c.self.inside.cache c.refill_for.new.cache c.args.input.now.capture.now.packets c.take_frames-came.result k c.take_frames-came.ensures u c.draw_own-drew.result.count c.draw_own-drew.new.self c.draw_own-drew.new.cache c.draw_own-drew.ensures.drawn in
     let outs : c.as_mut_slice-4.result.now ≡ c.tick_all.new.outputs = c.as_mut_slice-4.ensures.value ∙ mended (λ o. g.H.Handoff.accepted o.handoff) c.self.inside.outputs.len c.as_mut_slice.result.now
@@ -235,7 +235,7 @@ returns-clause-work g c =
     c.draw_own-drew.new.self.fates.items c.dispatch_all.new.outputs c.dispatch_all.new.self.fates.items in
     let done = subst (λ xs. IsDispatched (stationed g.K.KindSet.meaning c.args.fork.now.graph c.args.fork.now.generation station) c.self.inside.options.queue g.H.Handoff.LOSSLESS told c.draw_own-drew.new.self c.draw_own-drew.new.cache
     (by_worker c.self.inside.number [] xs) c.dispatch_all.new.self c.dispatch_all.new.cache (by_worker c.self.inside.number [] (map (λ o. g.H.Handoff.accepted o.handoff) c.dispatch_all.new.outputs))) accs c.dispatch_all.ensures.dispatched in
-    let r = round_here g.K.KindSet.meaning c.args.fork.now.graph c.args.fork.now.generation c.self.inside.number c.self.inside.packets c.self.inside.bytes c.self.inside.mark c.self.inside.own c.self.inside.left c.self.inside.taken c.unwrap_or.result c.min-most.result
+    let r = round_here g.K.KindSet.meaning c.args.fork.now.graph c.args.fork.now.generation c.self.inside.number c.self.inside.packets c.self.inside.bytes c.self.inside.mark c.self.inside.own c.self.inside.left c.self.inside.taken c.unwrap_or.result c.where_goes-most.result
     c.where_goes-tried.result c.self.inside.options c.self.inside.work c.take_frames-came.new.self c.self.inside.sorted c.self.inside.groups.items c.self.inside.inputs.items c.as_mut_slice-2.result.now c.take_frames-came.new.inputs accepted slots
     c.self.inside.cache c.refill_for.new.cache c.args.input.now.capture.now.packets c.take_frames-came.result (λ (settled : List Settled). Unit {0}) g.H.Handoff.LOSSLESS c.args.input.now.plan.now
     c.args.input.now.capture.now g.met.K.KindSet.lawful c.requires.graph (same_limit c.unwrap_or.result _ _ _ c.unwrap_or.ensures c.requires.limit)
@@ -254,7 +254,7 @@ returns-clause-work g c =
     let allocated : c.relieve.new.cache.allocated ≡ c.dispatch_all.new.cache.allocated = ap (λ (b : CacheBook). b.allocated) c.relieve.ensures.cache in
     let freed : c.relieve.new.cache.freed ≡ c.dispatch_all.new.cache.freed = ap (λ (b : CacheBook). b.freed) c.relieve.ensures.cache in
     work_here g.K.KindSet.meaning g.H.Handoff.LOSSLESS c.args.input.now.plan.now c.args.input.now.capture.now c.args.input.now.options.now c.self.view_is c.requires.work c.args.fork.now.graph c.args.fork.now.generation
-    c.unwrap_or.result c.self.inside.taken c.draw_own-drew.result.count c.min-most.result c.take_frames-came.result.count c.take_frames-came.result.bytes c.draw_own-drew.result.bytes c.take_frames-came.ensures.took c.self.inside.inputs.items
+    c.unwrap_or.result c.self.inside.taken c.draw_own-drew.result.count c.where_goes-most.result c.take_frames-came.result.count c.take_frames-came.result.bytes c.draw_own-drew.result.bytes c.take_frames-came.ensures.took c.self.inside.inputs.items
     c.take_frames-came.new.inputs accepted (map (λ o. g.H.Handoff.accepted o.handoff) c.dispatch_all.new.outputs) (map (λ o. g.H.Handoff.slots o.handoff) c.dispatch_all.new.outputs) c.self.inside.work c.dispatch_all.new.self c.refill_for.new.cache c.dispatch_all.new.cache r refl refl
     (account_at c.self.inside.number c.self.inside.work c.refill_for.new.cache c.self.inside.cache refl refl refl (sym u.allocated) (sym u.freed))
     (account_at c.self.inside.number c.dispatch_all.new.self c.dispatch_all.new.cache c.relieve.new.cache c.draw_own-drew.ensures.mark
@@ -266,15 +266,15 @@ returns-clause-same g c =
     let k = c.self.invariant.0 in
     let len_is = c.len-2.ensures in
     let inputs_is : c.len-2.result ≡ length c.self.inside.inputs.items = len_is ∙ sym c.as_mut_slice-2.ensures.len ∙ ap length c.as_mut_slice-2.ensures.value in
-    let u = set_up c.args.input.now.capture.now c.args.input.now.options.now c.self.view_is c.requires.work.made c.may_go-goes.result c.may_draw-draws.result c.unwrap_or.result c.where_goes-tried.result c.len-2.result c.len.result c.refill_for.result c.where_goes.result c.len-3.result
-    c.min-most.result c.self.inside.inputs.items c.self.inside.cache c.refill_for.new.cache c.args.input.now.capture.now.packets k.range k.inputs_each refl
+    let u = set_up c.args.input.now.capture.now c.args.input.now.options.now c.self.view_is c.requires.work.made c.may_go-goes.result c.may_draw-draws.result c.unwrap_or.result c.where_goes-tried.result c.len-2.result c.len.result c.refill_for.result
+    c.where_goes-most.result c.self.inside.inputs.items c.self.inside.cache c.refill_for.new.cache c.args.input.now.capture.now.packets k.range k.inputs_each refl
     (same_limit c.unwrap_or.result _ _ _ c.unwrap_or.ensures c.requires.limit).1 c.where_goes-tried.ensures (λ h. (c.may_go-goes.ensures.0 h).0) inputs_is
-    c.len.ensures.len (refills c.self.inside.cache c.refill_for.result c.refill_for.ensures.few).0 (refills c.self.inside.cache c.refill_for.result c.refill_for.ensures.few).1 c.refill_for.ensures.cache c.len-3.ensures.len c.len-3.ensures.room c.where_goes.ensures c.min-most.ensures in
+    c.len.ensures.len (refills c.self.inside.cache c.refill_for.result c.refill_for.ensures.few).0 (refills c.self.inside.cache c.refill_for.result c.refill_for.ensures.few).1 c.refill_for.ensures.cache c.len.ensures.room c.where_goes-most.ensures in
     let accepted : List (List HandoffFrame) = map (λ o. g.H.Handoff.accepted o.handoff) c.self.inside.outputs.items in
     let slots : List ℕ = map (λ o. g.H.Handoff.slots o.handoff) c.self.inside.outputs.items in
     let station : Station = record { workers = c.self.inside.options.workers; worker = c.self.inside.number; slots = c.self.inside.options.queue } in
     let ok = setting_of g.K.KindSet.meaning c.args.input.now.plan.now c.args.fork.now.graph c.args.fork.now.generation station g.met.K.KindSet.lawful c.requires.work.planned c.requires.graph in
-    let entered = entered_here g.K.KindSet.meaning c.args.fork.now.graph c.args.fork.now.generation c.self.inside.number c.self.inside.packets c.self.inside.bytes c.self.inside.mark c.self.inside.own c.self.inside.left c.self.inside.taken c.unwrap_or.result c.min-most.result
+    let entered = entered_here g.K.KindSet.meaning c.args.fork.now.graph c.args.fork.now.generation c.self.inside.number c.self.inside.packets c.self.inside.bytes c.self.inside.mark c.self.inside.own c.self.inside.left c.self.inside.taken c.unwrap_or.result c.where_goes-most.result
     c.where_goes-tried.result c.self.inside.options c.self.inside.work c.take_frames-came.new.self c.self.inside.sorted c.self.inside.groups.items c.self.inside.inputs.items c.as_mut_slice-2.result.now c.take_frames-came.new.inputs accepted slots
     c.self.inside.cache c.refill_for.new.cache c.args.input.now.capture.now.packets c.take_frames-came.result k c.take_frames-came.ensures u c.draw_own-drew.result.count c.draw_own-drew.new.self c.draw_own-drew.new.cache c.draw_own-drew.ensures.drawn in
     let outs : c.as_mut_slice-4.result.now ≡ c.tick_all.new.outputs = c.as_mut_slice-4.ensures.value ∙ mended (λ o. g.H.Handoff.accepted o.handoff) c.self.inside.outputs.len c.as_mut_slice.result.now
@@ -289,7 +289,7 @@ returns-clause-same g c =
     c.draw_own-drew.new.self.fates.items c.dispatch_all.new.outputs c.dispatch_all.new.self.fates.items in
     let done = subst (λ xs. IsDispatched (stationed g.K.KindSet.meaning c.args.fork.now.graph c.args.fork.now.generation station) c.self.inside.options.queue g.H.Handoff.LOSSLESS told c.draw_own-drew.new.self c.draw_own-drew.new.cache
     (by_worker c.self.inside.number [] xs) c.dispatch_all.new.self c.dispatch_all.new.cache (by_worker c.self.inside.number [] (map (λ o. g.H.Handoff.accepted o.handoff) c.dispatch_all.new.outputs))) accs c.dispatch_all.ensures.dispatched in
-    let r = round_here g.K.KindSet.meaning c.args.fork.now.graph c.args.fork.now.generation c.self.inside.number c.self.inside.packets c.self.inside.bytes c.self.inside.mark c.self.inside.own c.self.inside.left c.self.inside.taken c.unwrap_or.result c.min-most.result
+    let r = round_here g.K.KindSet.meaning c.args.fork.now.graph c.args.fork.now.generation c.self.inside.number c.self.inside.packets c.self.inside.bytes c.self.inside.mark c.self.inside.own c.self.inside.left c.self.inside.taken c.unwrap_or.result c.where_goes-most.result
     c.where_goes-tried.result c.self.inside.options c.self.inside.work c.take_frames-came.new.self c.self.inside.sorted c.self.inside.groups.items c.self.inside.inputs.items c.as_mut_slice-2.result.now c.take_frames-came.new.inputs accepted slots
     c.self.inside.cache c.refill_for.new.cache c.args.input.now.capture.now.packets c.take_frames-came.result (λ (settled : List Settled). Unit {0}) g.H.Handoff.LOSSLESS c.args.input.now.plan.now
     c.args.input.now.capture.now g.met.K.KindSet.lawful c.requires.graph (same_limit c.unwrap_or.result _ _ _ c.unwrap_or.ensures c.requires.limit)
@@ -314,15 +314,15 @@ returns-clause-round g c =
     let k = c.self.invariant.0 in
     let len_is = c.len-2.ensures in
     let inputs_is : c.len-2.result ≡ length c.self.inside.inputs.items = len_is ∙ sym c.as_mut_slice-2.ensures.len ∙ ap length c.as_mut_slice-2.ensures.value in
-    let u = set_up c.args.input.now.capture.now c.args.input.now.options.now c.self.view_is c.requires.work.made c.may_go-goes.result c.may_draw-draws.result c.unwrap_or.result c.where_goes-tried.result c.len-2.result c.len.result c.refill_for.result c.where_goes.result c.len-3.result
-    c.min-most.result c.self.inside.inputs.items c.self.inside.cache c.refill_for.new.cache c.args.input.now.capture.now.packets k.range k.inputs_each refl
+    let u = set_up c.args.input.now.capture.now c.args.input.now.options.now c.self.view_is c.requires.work.made c.may_go-goes.result c.may_draw-draws.result c.unwrap_or.result c.where_goes-tried.result c.len-2.result c.len.result c.refill_for.result
+    c.where_goes-most.result c.self.inside.inputs.items c.self.inside.cache c.refill_for.new.cache c.args.input.now.capture.now.packets k.range k.inputs_each refl
     (same_limit c.unwrap_or.result _ _ _ c.unwrap_or.ensures c.requires.limit).1 c.where_goes-tried.ensures (λ h. (c.may_go-goes.ensures.0 h).0) inputs_is
-    c.len.ensures.len (refills c.self.inside.cache c.refill_for.result c.refill_for.ensures.few).0 (refills c.self.inside.cache c.refill_for.result c.refill_for.ensures.few).1 c.refill_for.ensures.cache c.len-3.ensures.len c.len-3.ensures.room c.where_goes.ensures c.min-most.ensures in
+    c.len.ensures.len (refills c.self.inside.cache c.refill_for.result c.refill_for.ensures.few).0 (refills c.self.inside.cache c.refill_for.result c.refill_for.ensures.few).1 c.refill_for.ensures.cache c.len.ensures.room c.where_goes-most.ensures in
     let accepted : List (List HandoffFrame) = map (λ o. g.H.Handoff.accepted o.handoff) c.self.inside.outputs.items in
     let slots : List ℕ = map (λ o. g.H.Handoff.slots o.handoff) c.self.inside.outputs.items in
     let station : Station = record { workers = c.self.inside.options.workers; worker = c.self.inside.number; slots = c.self.inside.options.queue } in
     let ok = setting_of g.K.KindSet.meaning c.args.input.now.plan.now c.args.fork.now.graph c.args.fork.now.generation station g.met.K.KindSet.lawful c.requires.work.planned c.requires.graph in
-    let entered = entered_here g.K.KindSet.meaning c.args.fork.now.graph c.args.fork.now.generation c.self.inside.number c.self.inside.packets c.self.inside.bytes c.self.inside.mark c.self.inside.own c.self.inside.left c.self.inside.taken c.unwrap_or.result c.min-most.result
+    let entered = entered_here g.K.KindSet.meaning c.args.fork.now.graph c.args.fork.now.generation c.self.inside.number c.self.inside.packets c.self.inside.bytes c.self.inside.mark c.self.inside.own c.self.inside.left c.self.inside.taken c.unwrap_or.result c.where_goes-most.result
     c.where_goes-tried.result c.self.inside.options c.self.inside.work c.take_frames-came.new.self c.self.inside.sorted c.self.inside.groups.items c.self.inside.inputs.items c.as_mut_slice-2.result.now c.take_frames-came.new.inputs accepted slots
     c.self.inside.cache c.refill_for.new.cache c.args.input.now.capture.now.packets c.take_frames-came.result k c.take_frames-came.ensures u c.draw_own-drew.result.count c.draw_own-drew.new.self c.draw_own-drew.new.cache c.draw_own-drew.ensures.drawn in
     let outs : c.as_mut_slice-4.result.now ≡ c.tick_all.new.outputs = c.as_mut_slice-4.ensures.value ∙ mended (λ o. g.H.Handoff.accepted o.handoff) c.self.inside.outputs.len c.as_mut_slice.result.now
@@ -344,7 +344,7 @@ returns-clause-round g c =
     let n : ℕ = c.self.inside.number in
     let all : List Settled → Type 0 = PushesFrames w c.self.inside.options.queue g.H.Handoff.LOSSLESS (by_worker n [] accepted) (by_worker n no_outlet ticked) c.self.inside.work.fates.items
     (by_worker n [] (map (λ o. g.H.Handoff.accepted o.handoff) c.dispatch_all.new.outputs)) (by_worker n no_outlet after) c.dispatch_all.new.self.fates.items in
-    let r = round_here g.K.KindSet.meaning c.args.fork.now.graph c.args.fork.now.generation c.self.inside.number c.self.inside.packets c.self.inside.bytes c.self.inside.mark c.self.inside.own c.self.inside.left c.self.inside.taken c.unwrap_or.result c.min-most.result
+    let r = round_here g.K.KindSet.meaning c.args.fork.now.graph c.args.fork.now.generation c.self.inside.number c.self.inside.packets c.self.inside.bytes c.self.inside.mark c.self.inside.own c.self.inside.left c.self.inside.taken c.unwrap_or.result c.where_goes-most.result
     c.where_goes-tried.result c.self.inside.options c.self.inside.work c.take_frames-came.new.self c.self.inside.sorted c.self.inside.groups.items c.self.inside.inputs.items c.as_mut_slice-2.result.now c.take_frames-came.new.inputs accepted slots
     c.self.inside.cache c.refill_for.new.cache c.args.input.now.capture.now.packets c.take_frames-came.result all g.H.Handoff.LOSSLESS c.args.input.now.plan.now c.args.input.now.capture.now g.met.K.KindSet.lawful
     c.requires.graph (same_limit c.unwrap_or.result _ _ _ c.unwrap_or.ensures c.requires.limit)
@@ -373,9 +373,9 @@ returns-clause-round g c =
     let slice : c.as_slice.result.now ≡ c.tick_all.new.outputs = c.as_slice.ensures.value ∙ sym c.as_mut_slice-4.ensures.value ∙ outs in
     let slice2 : c.as_slice-2.result.now ≡ c.tick_all.new.outputs = c.as_slice-2.ensures.value ∙ sym c.as_mut_slice-4.ensures.value ∙ outs in
     did_here g.K.KindSet.meaning g.H.Handoff.LOSSLESS c.args.input.now.plan.now c.args.input.now.capture.now c.args.input.now.options.now c.self.view_is c.requires.work c.args.fork.now.graph c.args.fork.now.generation c.unwrap_or.result _ c.unwrap_or.ensures
-    c.self.inside.taken c.draw_own-drew.result.count c.min-most.result c.take_frames-came.result.count c.take_frames-came.result.bytes c.draw_own-drew.result.bytes c.take_frames-came.ensures.took c.self.inside.inputs.items c.take_frames-came.new.inputs accepted
+    c.self.inside.taken c.draw_own-drew.result.count c.where_goes-most.result c.take_frames-came.result.count c.take_frames-came.result.bytes c.draw_own-drew.result.bytes c.take_frames-came.ensures.took c.self.inside.inputs.items c.take_frames-came.new.inputs accepted
     (map (λ o. g.H.Handoff.accepted o.handoff) c.dispatch_all.new.outputs) (map (λ o. g.H.Handoff.slots o.handoff) c.dispatch_all.new.outputs) c.self.inside.work c.dispatch_all.new.self c.refill_for.new.cache c.dispatch_all.new.cache r
-    c.where_goes-tried.result c.refill_for.result c.where_goes.result c.may_go-goes.result c.may_draw-draws.result before ticked after c.self.inside.cache c.relieve.new.cache
+    c.where_goes-tried.result c.refill_for.result c.may_go-goes.result c.may_draw-draws.result before ticked after c.self.inside.cache c.relieve.new.cache
     (record {
       own_mark = ap (λ (b : WorkerBook). b.mark % b.options.workers) c.self.view_is ∙ ap (λ (o : Options). c.args.self.now.mark % o.workers) c.requires.work.made.options_are ∙ c.requires.work.own_mark ∙ sym (ap (λ (b : WorkerBook). b.number) c.self.view_is);
       number_within = k.number_within;
@@ -426,9 +426,10 @@ returns-clause-round g c =
       last_taken = ap (λ (b : CacheBook). b.taken) c.relieve.ensures.cache;
       last_allocated = allocated;
       last_freed = freed;
-      asked_is = c.where_goes.ensures;
-      most_is = c.min-most.ensures ∙ ap (min c.where_goes.result) c.len-3.ensures.len;
-      all = λ few. subst (λ m. c.unwrap_or.result ≤ m) c.draw_own-drew.ensures.mark (c.draw_own-drew.ensures.all few);
+      drawn_is = c.where_goes-most.ensures;
+      cached = c.draw_own-drew.new.cache.len;
+      chained = c.draw_own-drew.ensures.chained;
+      all = λ few. subst (λ m. (c.unwrap_or.result ≤ m) ⊎ LacksBuffers (frames_of c.args.input.now.capture.now.packets) m c.draw_own-drew.new.cache.len) c.draw_own-drew.ensures.mark (c.draw_own-drew.ensures.all few);
       pushed = λ settled told. told;
     }) _ _ (record {
       number_is = refl;
@@ -473,13 +474,13 @@ returns-clause-buffers g c = λ none.
     let k = c.self.invariant.0 in
     let len_is = c.len-2.ensures in
     let inputs_is : c.len-2.result ≡ length c.self.inside.inputs.items = len_is ∙ sym c.as_mut_slice-2.ensures.len ∙ ap length c.as_mut_slice-2.ensures.value in
-    let u = set_up c.args.input.now.capture.now c.args.input.now.options.now c.self.view_is c.requires.work.made c.may_go-goes.result c.may_draw-draws.result c.unwrap_or.result c.where_goes-tried.result c.len-2.result c.len.result c.refill_for.result c.where_goes.result c.len-3.result
-    c.min-most.result c.self.inside.inputs.items c.self.inside.cache c.refill_for.new.cache c.args.input.now.capture.now.packets k.range k.inputs_each refl
+    let u = set_up c.args.input.now.capture.now c.args.input.now.options.now c.self.view_is c.requires.work.made c.may_go-goes.result c.may_draw-draws.result c.unwrap_or.result c.where_goes-tried.result c.len-2.result c.len.result c.refill_for.result
+    c.where_goes-most.result c.self.inside.inputs.items c.self.inside.cache c.refill_for.new.cache c.args.input.now.capture.now.packets k.range k.inputs_each refl
     (same_limit c.unwrap_or.result _ _ _ c.unwrap_or.ensures c.requires.limit).1 c.where_goes-tried.ensures (λ h. (c.may_go-goes.ensures.0 h).0) inputs_is
-    c.len.ensures.len (refills c.self.inside.cache c.refill_for.result c.refill_for.ensures.few).0 (refills c.self.inside.cache c.refill_for.result c.refill_for.ensures.few).1 c.refill_for.ensures.cache c.len-3.ensures.len c.len-3.ensures.room c.where_goes.ensures c.min-most.ensures in
+    c.len.ensures.len (refills c.self.inside.cache c.refill_for.result c.refill_for.ensures.few).0 (refills c.self.inside.cache c.refill_for.result c.refill_for.ensures.few).1 c.refill_for.ensures.cache c.len.ensures.room c.where_goes-most.ensures in
     let accepted : List (List HandoffFrame) = map (λ o. g.H.Handoff.accepted o.handoff) c.self.inside.outputs.items in
     let slots : List ℕ = map (λ o. g.H.Handoff.slots o.handoff) c.self.inside.outputs.items in
-    let entered = entered_here g.K.KindSet.meaning c.args.fork.now.graph c.args.fork.now.generation c.self.inside.number c.self.inside.packets c.self.inside.bytes c.self.inside.mark c.self.inside.own c.self.inside.left c.self.inside.taken c.unwrap_or.result c.min-most.result
+    let entered = entered_here g.K.KindSet.meaning c.args.fork.now.graph c.args.fork.now.generation c.self.inside.number c.self.inside.packets c.self.inside.bytes c.self.inside.mark c.self.inside.own c.self.inside.left c.self.inside.taken c.unwrap_or.result c.where_goes-most.result
     c.where_goes-tried.result c.self.inside.options c.self.inside.work c.take_frames-came.new.self c.self.inside.sorted c.self.inside.groups.items c.self.inside.inputs.items c.as_mut_slice-2.result.now c.take_frames-came.new.inputs accepted slots
     c.self.inside.cache c.refill_for.new.cache c.args.input.now.capture.now.packets c.take_frames-came.result k c.take_frames-came.ensures u c.draw_own-drew.result.count c.draw_own-drew.new.self c.draw_own-drew.new.cache c.draw_own-drew.ensures.drawn in
     let e1 = ap (λ (b : CacheBook). b.taken) c.relieve.ensures.cache in let e2 = c.dispatch_all.ensures.dispatched.exchanges.taken in let e3 = entered.exchanges.taken in

@@ -1,9 +1,10 @@
 use Rattle.std.proofs.Common.{◌≡◌, ◌+◌, ◌-◌, ◌*◌, ◌/◌, ◌%◌, ◌^◌, length, subst, sym, ap, ◌∙◌, arith}
 use Rattle.std.proofs.lemmas.Nat.{one_shl}
 use Rattle.std.specs.Prelude.{if◌then◌else◌}
+use Rattle.vg_model.specs.Route.{ip4, covers_of}
 use Rattle.vg_fib.specs.declared.trie.Entry.TheVariants.{Child}
-use Rattle.vg_fib.specs.Laws.{prefix_covers}
-use Rattle.vg_fib.specs.Trie.{IsRaised, longer_of}
+use Rattle.vg_fib.specs.Numbers.{longer_of}
+use Rattle.vg_fib.specs.Trie.{IsRaised}
 use Rattle.vg_fib.proofs.SpanLemmas.{long_span}
 use Rattle.vg_fib.proofs.LevelLemmas.{entry, long_numbers, long_levels}
 use Rattle.vg_fib.proofs.trie.Levels.put_long.Goals as goal
@@ -25,7 +26,7 @@ raise_third-requires c =
 pub returns : goal.returns
 returns c =
     let prefix = c.args.prefix in
-    let f = longer_of c.args.routes.now c.args.number in
+    let f = longer_of ip4 c.args.routes.now c.args.number in
     let parent = c.in_ok-parent.parent in
     let child = c.in_ok-child.child in
     let above = c.in_ok-parent.ensures in
@@ -42,7 +43,7 @@ returns c =
       shape = long_levels f from (2 ^ (32 - prefix.len)) first second third new gives.shape raised;
       numbers = λ address bound.
           long_numbers prefix f parent child first second third new gives.shape c.requires.longer parent_is gives.is raised address
-          ∙ ap (λ old. if prefix_covers prefix address then f old else old) (gives.numbers address ∙ above.numbers address);
+          ∙ ap (λ old. if covers_of ip4 prefix address then f old else old) (gives.numbers address ∙ above.numbers address);
       second_grows = omega (arith, gives.second, above.grows);
       third_grows = omega (arith, raised.same_length, gives.grows, ap length above.same);
     }

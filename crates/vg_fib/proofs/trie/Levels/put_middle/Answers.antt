@@ -1,8 +1,9 @@
 use Rattle.std.proofs.Common.{◌+◌, ◌-◌, ◌*◌, ◌/◌, ◌%◌, ◌^◌, length, subst, ap, ◌∙◌, arith}
 use Rattle.std.proofs.lemmas.Nat.{one_shl}
 use Rattle.std.specs.Prelude.{if◌then◌else◌}
-use Rattle.vg_fib.specs.Laws.{prefix_covers}
-use Rattle.vg_fib.specs.Trie.{IsRaisedSecond, longer_of}
+use Rattle.vg_model.specs.Route.{ip4, covers_of}
+use Rattle.vg_fib.specs.Numbers.{longer_of}
+use Rattle.vg_fib.specs.Trie.{IsRaisedSecond}
 use Rattle.vg_fib.proofs.SpanLemmas.{middle_span}
 use Rattle.vg_fib.proofs.LevelLemmas.{middle_numbers, middle_levels}
 use Rattle.vg_fib.proofs.trie.Levels.put_middle.Goals as goal
@@ -17,7 +18,7 @@ raise_second-requires-clause-places c =
 pub returns : goal.returns
 returns c =
     let prefix = c.args.prefix in
-    let f = longer_of c.args.routes.now c.args.number in
+    let f = longer_of ip4 c.args.routes.now c.args.number in
     let child = c.in_ok-child.child in
     let gives = c.in_ok-child.ensures in
     let levels = c.first_child.new.self in
@@ -32,7 +33,7 @@ returns c =
       shape = middle_levels f from (2 ^ (24 - prefix.len)) first second third new newer gives.shape raised;
       numbers = λ address bound.
           middle_numbers prefix f child first second third new newer gives.shape c.requires.longer c.requires.middle gives.is raised address
-          ∙ ap (λ old. if prefix_covers prefix address then f old else old) (gives.numbers address);
+          ∙ ap (λ old. if covers_of ip4 prefix address then f old else old) (gives.numbers address);
       second_grows = omega (arith, raised.same_length, gives.grows);
       third_grows = omega (arith, raised.third, ap length gives.same);
     }

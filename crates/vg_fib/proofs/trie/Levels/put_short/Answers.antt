@@ -1,6 +1,8 @@
 use Rattle.std.proofs.Common.{◌<◌, ◌-◌, ◌/◌, ◌^◌, subst, arith, rules}
 use Rattle.std.proofs.lemmas.Nat.{one_shl}
-use Rattle.vg_fib.specs.Trie.{IsRaisedFirst, longer_of}
+use Rattle.vg_model.specs.Route.{ip4}
+use Rattle.vg_fib.specs.Numbers.{longer_of}
+use Rattle.vg_fib.specs.Trie.{IsRaisedFirst}
 use Rattle.vg_fib.proofs.SpanLemmas.{short_span}
 use Rattle.vg_fib.proofs.LevelLemmas.{short_numbers, raised_levels}
 use Rattle.vg_fib.proofs.trie.Levels.put_short.Goals as goal
@@ -15,7 +17,7 @@ pub returns : goal.returns
 returns c =
     let prefix = c.args.prefix in
     let bound : prefix.addr < 2 ^ 32 = search rules in
-    let f = longer_of c.args.routes.now c.args.number in
+    let f = longer_of ip4 c.args.routes.now c.args.number in
     let raised = subst (λ count. IsRaisedFirst f (prefix.addr / 65536) count c.args.self.now c.raise_first.new.self)
     (one_shl (16 - prefix.len) 64 (omega arith)) c.raise_first.ensures in
     record {

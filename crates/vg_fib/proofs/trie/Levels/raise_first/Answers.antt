@@ -1,5 +1,6 @@
 use Rattle.std.proofs.Common.{◌≡◌, ◌+◌, ◌-◌, ◌<◌, length, arith}
-use Rattle.vg_fib.specs.Trie.{longer_of}
+use Rattle.vg_model.specs.Route.{ip4}
+use Rattle.vg_fib.specs.Numbers.{longer_of}
 use Rattle.vg_fib.proofs.LevelLemmas.{entry_read, fewer_children}
 use Rattle.vg_fib.proofs.RaiseLemmas.{leaf_raised_first, child_raised_first, counted_first}
 use Rattle.vg_fib.proofs.trie.Levels.raise_first.Goals as goal
@@ -23,7 +24,7 @@ loop-place-preserved c =
     let raised = c.loop-place.invariant in
     let place = c.loop-place.place in
     let from = c.args.from in
-    let f = longer_of c.args.routes.now c.args.number in
+    let f = longer_of ip4 c.args.routes.now c.args.number in
     let old = c.args.self.now in
     let mid = c.loop-place.self in
     let here : place ≡ from + (place - from) = omega arith in

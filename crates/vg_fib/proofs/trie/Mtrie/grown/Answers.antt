@@ -1,5 +1,5 @@
 use Rattle.std.proofs.Common.{◌≡◌, rules}
-use Rattle.vg_fib.specs.Trie.{BeginsWith}
+use Rattle.vg_fib.specs.Numbers.{BeginsWith}
 use Rattle.vg_fib.proofs.NumberLemmas.{has_renewed}
 use Rattle.vg_fib.proofs.trie.Mtrie.grown.Goals as goal
 

@@ -1,4 +1,4 @@
-use Rattle.std.proofs.Common.{◌<◌, ◌≤◌, length, drop, ap, ◌∙◌, arith}
+use Rattle.std.proofs.Common.{◌≤◌, length, drop, ap, ◌∙◌, arith}
 use Rattle.vg_plan.specs.Left.{graphs_left}
 use Rattle.vg_plan.proofs.LeftLemmas.{run_within, left_next, graphs_next}
 use Rattle.vg_plan.proofs.generations.Generations.advance.Goals as goal

@@ -11,10 +11,10 @@ pub invariant_of-result : goal.invariant_of-result
 invariant_of-result c =
     joined_inside (λ (part : Vec ℕ Global). part.items) c.self.inside.bytes.items c.self.inside.more.items c.other.inside.more.items c.append.new.self.items c.other.inside.bytes (c.len-parts.result + 1)
     c.self.inside.entries.items c.other.inside.entries.items _ (let len = c.len-parts.ensures in let ok = c.self.inside.more.ok.0 in omega (arith, len, ok))
-    (c.in-Ok-append.ensures.items ∙ ap (λ xs. xs ++ c.other.inside.more.items) c.in-Ok.ensures.items) c.in-Ok-followed_by.ensures c.self.invariant c.other.invariant
+    (c.in_ok-append.ensures.items ∙ ap (λ xs. xs ++ c.other.inside.more.items) c.in_ok-push.ensures.items) c.in_ok-entries.ensures c.self.invariant c.other.invariant
 
 pub returns : goal.returns
 returns c =
     joined_sent (λ (part : Vec ℕ Global). part.items) c.self.inside.bytes.items c.self.inside.more.items c.other.inside.more.items c.append.new.self.items c.other.inside.bytes (c.len-parts.result + 1)
     c.self.inside.entries.items c.other.inside.entries.items _ _ _ (let len = c.len-parts.ensures in let ok = c.self.inside.more.ok.0 in omega (arith, len, ok))
-    (c.in-Ok-append.ensures.items ∙ ap (λ xs. xs ++ c.other.inside.more.items) c.in-Ok.ensures.items) c.in-Ok-followed_by.ensures c.self.invariant c.self.view_is c.other.view_is
+    (c.in_ok-append.ensures.items ∙ ap (λ xs. xs ++ c.other.inside.more.items) c.in_ok-push.ensures.items) c.in_ok-entries.ensures c.self.invariant c.self.view_is c.other.view_is

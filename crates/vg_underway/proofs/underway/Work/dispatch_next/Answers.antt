@@ -10,6 +10,7 @@ use Rattle.vg_underway.specs.Works.{hand_of}
 use Rattle.vg_underway.specs.declared.underway.Work.{Work}
 use Rattle.vg_underway.specs.Hands.{IsDispatched}
 use Rattle.vg_underway.specs.Outlets.{outlet_of, most_in_round, PushesOver}
+use Rattle.vg_underway.proofs.WorkLemmas.{exchanges_none, takes_kept}
 use Rattle.vg_underway.proofs.PushLemmas.{pushed_none}
 use Rattle.vg_underway.proofs.HandGroupLemmas.{can_fewer}
 use Rattle.vg_underway.proofs.FrameLemmas.{frame_target, frame_live, noted_live, frame_legs, frame_distinct, frame_counts}
@@ -59,7 +60,7 @@ put_away-requires g c =
       empty = c.requires.empty.1;
       target = frame_target s c.args.self.now c.in-Some.node c.in-Some.frame c.next_frame.new.self c.requires.steady.held takes;
       steady = after.steady;
-      takes = record { len = (let room = c.requires.takes.len in omega (arith, room, same)); freed = (let room = c.requires.takes.freed in omega (arith, room, same)) };
+      takes = takes_kept s c.in-Some.node [] c.args.self.now _ [] _ c.args.cache.now c.args.cache.now (record { len = c.requires.takes.len; freed = c.requires.takes.freed }) after.advances (exchanges_none c.args.cache.now);
     }
 
 pub returns : goal.returns

@@ -1,4 +1,4 @@
-use Rattle.std.proofs.Common.{◌≡◌, ◌≤◌, ◌%◌, ◌+◌, ◌<◌, ◌≢◌, [], ◌∷◌, ◌++◌, length, map, drop, refl, sym, ap, subst, ◌∙◌, arith}
+use Rattle.std.proofs.Common.{◌≡◌, ℕ, ◌≤◌, ◌%◌, ◌+◌, ◌<◌, ◌≢◌, [], ◌∷◌, ◌++◌, length, map, drop, refl, sym, ap, subst, ◌∙◌, arith}
 use Rattle.std.specs.Prelude.{slice_index_or, slice_set}
 use Rattle.std.proofs.Math.Nat.{mod-lt}
 use Rattle.vg_underway.specs.declared.underway.Work.{Work}
@@ -77,11 +77,14 @@ hands-preserved-then-count_legs-eq-MOST_LEGS g c =
     let four : length (contents_at c.hands.self.memory (slice_index_or c.args.hands.now c.hands.entry-index (0, 0)).0).legs ≡ 4 = sym c.count_legs.ensures.legs ∙ c.if-count_legs-eq-MOST_LEGS.true in
     let finished : Finishes (slice_index_or c.args.hands.now c.hands.entry-index (0, 0)).0 (Dropped c.args.node HandoffLimit) c.hands.self c.finish.new.self = subst
     (λ (x : Work). Finishes (slice_index_or c.args.hands.now c.hands.entry-index (0, 0)).0 (Dropped c.args.node HandoffLimit) x c.finish.new.self) c.count_legs.ensures.same c.finish.ensures.finished in
+    let pieces : Work → ℕ = λ (x : Work). (contents_at x.memory (slice_index_or c.args.hands.now c.hands.entry-index (0, 0)).0).pieces in
+    let back : c.finish.new.cache ≡ record c.hands.cache { len = c.hands.cache.len + pieces c.hands.self; freed = c.hands.cache.freed + pieces c.hands.self } = subst
+    (λ (x : Work). c.finish.new.cache ≡ record c.hands.cache { len = c.hands.cache.len + pieces x; freed = c.hands.cache.freed + pieces x }) c.count_legs.ensures.same c.finish.ensures.cache in
     grouping_over s c.args.node c.args.self.now c.args.cache.now c.args.hands.now c.hands.entry-index c.hands.self c.finish.new.self c.hands.cache c.finish.new.cache c.hands.groups (slice_index_or c.args.hands.now c.hands.entry-index (0, 0)).0 finished.memory c.hands.invariant
     (away_finish s c.args.node c.args.self.now c.args.cache.now (map hand_step c.args.hands.now) c.hands.self c.hands.cache (hand_step (slice_index_or c.args.hands.now c.hands.entry-index (0, 0)))
     (map hand_step (drop (c.hands.entry-index + 1) c.args.hands.now) ++ grouped 0 c.hands.groups) (Dropped c.args.node HandoffLimit) c.finish.new.self c.finish.new.cache c.requires.setting
     (target_within c.args.fork.now.graph c.args.node c.requires.target)
-    (last_leg s c.args.node (slice_index_or c.args.hands.now c.hands.entry-index (0, 0)).1 (contents_at c.hands.self.memory (slice_index_or c.args.hands.now c.hands.entry-index (0, 0)).0) other four) finished c.finish.ensures.cache first)
+    (last_leg s c.args.node (slice_index_or c.args.hands.now c.hands.entry-index (0, 0)).1 (contents_at c.hands.self.memory (slice_index_or c.args.hands.now c.hands.entry-index (0, 0)).0) other four) finished back first)
 
 pub returns : goal.returns
 returns g c =

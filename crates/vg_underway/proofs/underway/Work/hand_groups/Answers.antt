@@ -9,13 +9,13 @@ use Rattle.vg_journeys.specs.Accounts.{HandoffFrame, frames_with}
 use Rattle.vg_journeys.specs.Turns.{Settled}
 use Rattle.vg_underway.specs.Peers.{by_worker, place_among}
 use Rattle.vg_underway.specs.Underway.{Setting, stationed}
-use Rattle.vg_underway.specs.Works.{IsSteady}
+use Rattle.vg_underway.specs.Works.{IsSteady, TakesAll}
 use Rattle.vg_underway.specs.Hands.{handed_to, grouped, HandsOver}
 use Rattle.vg_underway.specs.Outlets.{outlet_of, most_in_round, ArePushes, PushesOver}
 use Rattle.vg_underway.proofs.PushLemmas.{pushed_more, pushed_none, refused_there}
 use Rattle.vg_underway.proofs.PeerLemmas.{place_within, all_map_at, peers_length}
 use Rattle.vg_underway.proofs.GroupLemmas.{any_default}
-use Rattle.vg_underway.proofs.HandGroupLemmas.{IsHandingAll, handing_none, handing_skip, handing_steady, handing_one, handing_all, can_one, queue_at, queue_set}
+use Rattle.vg_underway.proofs.HandGroupLemmas.{IsHandingAll, handing_none, handing_skip, handing_steady, handing_takes, handing_one, handing_all, can_one, queue_at, queue_set}
 use Rattle.vg_underway.proofs.underway.Work.hand_groups.Goals as goal
 
 pub to-init : goal.to-init
@@ -94,6 +94,8 @@ hand_over-requires-clause-hand g c =
     any_default c.to.groups c.to.to [] c.index-groups-to-in-to.result inside ∙ sym c.replace-group.ensures.value in (
       grouped 0 (set c.to.groups c.to.to []),
       handing_steady s c.args.node c.args.station.slots g.H.Handoff.LOSSLESS c.args.self.now c.args.cache.now (by_worker c.args.station.worker [] (map g.H.Handoff.accepted c.args.outputs.now)) (grouped 0 c.args.groups.now) c.to.to c.to.self c.to.cache
+          (by_worker c.args.station.worker [] (map g.H.Handoff.accepted c.to.outputs)) c.to.groups c.replace-group.result inside at inv.all,
+      handing_takes s c.args.node c.args.station.slots g.H.Handoff.LOSSLESS c.args.self.now c.args.cache.now (by_worker c.args.station.worker [] (map g.H.Handoff.accepted c.args.outputs.now)) (grouped 0 c.args.groups.now) c.to.to c.to.self c.to.cache
           (by_worker c.args.station.worker [] (map g.H.Handoff.accepted c.to.outputs)) c.to.groups c.replace-group.result inside at inv.all,
     )
 
@@ -184,7 +186,10 @@ to-preserved g c =
     let put : List (List HandoffFrame) = by_worker c.args.station.worker [] (map acc c.to.outputs) in
     let slots_is : g.H.Handoff.slots old ≡ c.args.station.slots = all_map_at (λ n. n ≡ c.args.station.slots) g.H.Handoff.slots c.to.outputs place old here at_old can.slots_are in
     let found = queue_at acc c.args.station c.to.to c.to.outputs old other within own each (at_old ∙ ap (λ k. get_or c.to.outputs k old) c.place_of.ensures) in
-    let handed = c.hand_over.ensures.handed rest steady in
+    let takes : TakesAll s c.args.node c.to.self (handed_to c.to.to c.replace-group.result ++ rest) c.to.cache =
+    handing_takes s c.args.node c.args.station.slots g.H.Handoff.LOSSLESS c.args.self.now c.args.cache.now (by_worker c.args.station.worker [] (map acc c.args.outputs.now)) (grouped 0 c.args.groups.now) c.to.to c.to.self c.to.cache
+    (by_worker c.args.station.worker [] (map acc c.to.outputs)) c.to.groups c.replace-group.result there group_is inv.all in
+    let handed = c.hand_over.ensures.handed rest steady takes in
     let named : HandsOver s c.args.node c.to.to c.args.station.slots g.H.Handoff.LOSSLESS c.to.self c.to.cache (frames_with c.to.to put) (handed_to c.to.to c.replace-group.result ++ rest) c.hand_over.new.self c.hand_over.new.cache (acc next) rest =
     subst (λ fs. HandsOver s c.args.node c.to.to c.args.station.slots g.H.Handoff.LOSSLESS c.to.self c.to.cache fs (handed_to c.to.to c.replace-group.result ++ rest) c.hand_over.new.self c.hand_over.new.cache (acc next) rest) (sym found.1)
     (subst (λ n. HandsOver s c.args.node c.to.to n g.H.Handoff.LOSSLESS c.to.self c.to.cache (acc old) (handed_to c.to.to c.replace-group.result ++ rest) c.hand_over.new.self c.hand_over.new.cache (acc next) rest) slots_is handed) in

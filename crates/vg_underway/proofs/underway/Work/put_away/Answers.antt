@@ -4,7 +4,7 @@ use Rattle.vg_journeys.specs.Accounts.{HandoffFrame}
 use Rattle.vg_journeys.specs.Turns.{Settled}
 use Rattle.vg_underway.specs.Peers.{by_worker}
 use Rattle.vg_underway.specs.Underway.{Setting, stationed}
-use Rattle.vg_underway.specs.Works.{IsSteady, IsPutAway, hand_of, hand_step, without_drops}
+use Rattle.vg_underway.specs.Works.{IsSteady, TakesAll, IsPutAway, hand_of, hand_step, without_drops}
 use Rattle.vg_underway.specs.Hands.{IsGrouped, grouped}
 use Rattle.vg_underway.specs.Outlets.{outlet_of, most_in_round, PushesOver}
 use Rattle.vg_underway.proofs.PushLemmas.{pushed_behind}
@@ -21,7 +21,9 @@ group-requires-clause-steady g c =
     subst (λ (xs : List (ℕ × ℕ)). IsSteady s c.args.node c.put_apart.new.self (map hand_step xs)) (sym c.as_slice-hands.ensures.entries) c.put_apart.ensures.steady
 
 pub group-requires-clause-takes : goal.group-requires-clause-takes
-group-requires-clause-takes g c = c.put_apart.ensures.takes
+group-requires-clause-takes g c =
+    let s : Setting = stationed g.K.KindSet.meaning c.args.fork.now.graph c.args.fork.now.generation c.args.station in
+    subst (λ (xs : List (ℕ × ℕ)). TakesAll s c.args.node c.put_apart.new.self (map hand_step xs) c.put_apart.new.cache) (sym c.as_slice-hands.ensures.entries) c.put_apart.ensures.takes
 
 pub hand_groups-requires : goal.hand_groups-requires
 hand_groups-requires g c =

@@ -1,0 +1,9 @@
+use Rattle.std.proofs.Common.{◌≡◌, take}
+use Rattle.std.specs.List.{filter}
+use Rattle.vg_model.specs.Route.{covers, longest}
+use Rattle.vg_fib.proofs.table6.Fib6.find.Given as goal
+
+-- the longest of the routes so far that cover the address
+abbrev pub invariant-loop-route : goal.invariant-loop-route
+invariant-loop-route l =
+    l.longest ≡ longest (λ p. p.len) (filter (λ route. covers 128 route.0.addr route.0.len l.address) (take l.route-index l.route-items))

@@ -1,0 +1,25 @@
+-- A `&` to an estate holds a share of its lifetime's token. Assumes `Logic`.
+use mathlib.Core.List.{[], ◌∷◌}
+use base.Fraction.{full_share}
+use base.Fml.{fbor, flft, flent}
+use types.Logic.{lfts}
+use types.Kit.{‵, raw, ◌$◌, ◌∵◌, !, qed, updating, now, done}
+use types.Tokens.{bor_fracture}
+use denote.RattleType.{RattleType}
+use denote.Param.Laws.{Laws}
+use denote.Sharing.{one}
+use denote.SharingLaws.{one_shr_laws}
+use denote.Struct.Lending.{of_Lends, Lends-first}
+use Rattle.std.specs.declared.alloc.Allocator.{Ghosts}
+use Rattle.vg_land.specs.Ownership.{land_owns}
+use Rattle.vg_land.specs.contracts.Deed as Sole
+use Rattle.vg_land.specs.contracts.Estate as C
+use Rattle.vg_land.proofs.Deed.TheLaws as sole
+use Rattle.vg_land.proofs.Estate.TheLaw.Statement.{statement}
+
+pub shares : (T : RattleType) (g : Ghosts T.Denot) (L : Laws T) → statement T g L
+shares T g L =
+    of_Lends (C.struct T g) (C.the_codes T.Denot T.coded (Sole.the_row T g).coded) (C.the_heap T g) (C.the_lent T g)
+    (λ d p. one_shr_laws (λ q. flft (d.life ∷ []) q)) (sole.the_field_shared T g L, tt) (λ M 𝓤 𝓛 d p.
+    Lends-first 𝓛 (flft (d.life ∷ []) full_share) (flent (d.life ∷ []) (land_owns d.deed.ptr d.deed.len)) (one (λ q. flft (d.life ∷ []) q)) (C.the_row T g).lives
+    (λ κ ts inc sp. qed 𝓛 (‵ (fbor κ (flft (d.life ∷ []) full_share)) ∷ raw (lfts 𝓛 ts) ∷ []) ∵ updating ! $ bor_fracture ! tt (λ q. flft (d.life ∷ []) q) full_share $ now ! $ done !))

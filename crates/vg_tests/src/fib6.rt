@@ -1,0 +1,273 @@
+//! Tests of the table of IPv6 routes, and of its spans.
+
+ghost use Rattle.std.specs.Prelude.{◌≤◌};
+
+use std::alloc::{AllocError, Global};
+use std::process::Abort;
+use std::test::Fail;
+use vg_fib::{Fib6, FibError, NoSuchRoute, Spans6};
+use vg_model::limits::MOST_ROUTES;
+use vg_model::{Members, Prefix6, RouteTo};
+
+// ::/0, 2001:db8::/32, 2001:db8:1::/48, 2001:db8:1:2::/64, 2001:db8:1:2::8/127 and 2001:db8:1:2::8/128.
+const EVERYWHERE: Prefix6 = Prefix6 { addr: 0, len: 0 };
+
+const SITE: Prefix6 = Prefix6 {
+    addr: 0x2001_0db8_0000_0000_0000_0000_0000_0000,
+    len: 32,
+};
+
+const NET: Prefix6 = Prefix6 {
+    addr: 0x2001_0db8_0001_0000_0000_0000_0000_0000,
+    len: 48,
+};
+
+const LINK: Prefix6 = Prefix6 {
+    addr: 0x2001_0db8_0001_0002_0000_0000_0000_0000,
+    len: 64,
+};
+
+const PAIR: Prefix6 = Prefix6 {
+    addr: 0x2001_0db8_0001_0002_0000_0000_0000_0008,
+    len: 127,
+};
+
+const HOST: Prefix6 = Prefix6 {
+    addr: 0x2001_0db8_0001_0002_0000_0000_0000_0008,
+    len: 128,
+};
+
+// Over one adjacency.
+fn via(number: u16) -> RouteTo {
+    RouteTo::Via(Members::one(number))
+}
+
+// The prefix that covers one address alone.
+fn host(address: u128) -> Prefix6 {
+    Prefix6 {
+        addr: address,
+        len: 128,
+    }
+}
+
+// The longest match by a plain scan, which counts the bits that an address has in common with each prefix.
+fn scan(routes: &[(Prefix6, RouteTo)], address: u128) -> Option<RouteTo> {
+    let mut best: Option<(u8, RouteTo)> = None;
+    for (prefix, to) in routes {
+        let common = (prefix.addr ^ address).leading_zeros();
+        let longer = match best {
+            Some((len, _)) => prefix.len > len,
+            None => true,
+        };
+        if common >= u32::from(prefix.len) && longer {
+            best = Some((prefix.len, *to));
+        }
+    }
+    best.map(|best| best.1)
+}
+
+// The routes of the six prefixes, in the order of this number.
+fn in_order(alloc: Global, number: usize) -> Result<Vec<(Prefix6, RouteTo)>, AllocError> {
+    let mut left = vec![in alloc;
+        (EVERYWHERE, via(0)),
+        (SITE, via(1)),
+        (NET, RouteTo::Drop),
+        (LINK, via(3)),
+        (PAIR, RouteTo::Local),
+        (HOST, via(5)),
+    ]?;
+    let mut routes = Vec::new(alloc);
+    let mut number = number;
+    for _ in 0..6 {
+        let len = left.len();
+        if len > 0 {
+            routes.push(left.remove(number % len))?;
+            number /= len;
+        }
+    }
+    Ok(routes)
+}
+
+// Whether table, spans and scan answer the same.
+fn agree(rt: &impl Abort, fib: &Fib6, spans: &Spans6, address: u128) {
+    let plain = scan(fib.routes(), address);
+    assert_eq!(rt; fib.find(address), plain);
+    assert_eq!(rt; spans.find(address), plain);
+    assert_eq!(rt; spans.target(address).copied(), plain);
+}
+
+// Whether they answer the same at the first and the last address of each prefix, and beside them.
+fn agree_at_ends(rt: &impl Abort, fib: &Fib6, spans: &Spans6) {
+    for (prefix, _) in fib.routes() {
+        let first = prefix.addr;
+        let last = if prefix.len == 128 {
+            first
+        } else {
+            first | (u128::MAX >> prefix.len)
+        };
+        agree(rt, fib, spans, first);
+        agree(rt, fib, spans, last);
+        agree(rt, fib, spans, first.wrapping_sub(1));
+        agree(rt, fib, spans, last.wrapping_add(1));
+    }
+    agree(rt, fib, spans, 0);
+    agree(rt, fib, spans, u128::MAX);
+}
+
+#[test]
+fn the_longest_prefix_wins_in_any_order(rt: HostRuntime) -> Result<(), Fail> {
+    let alloc = rt.alloc();
+    for number in 0..720 {
+        let routes = in_order(alloc, number)?;
+        let mut fib = Fib6::new(alloc)?;
+        for (prefix, to) in &routes {
+            fib.set(*prefix, *to)?;
+        }
+        assert_eq!(rt; fib.routes(), routes.as_slice());
+        let copy = fib.copy()?;
+        assert_eq!(rt; copy.routes(), routes.as_slice());
+        let spans = Spans6::build(alloc, &copy)?;
+        agree_at_ends(&rt, &fib, &spans);
+        assert_eq!(rt; spans.find(HOST.addr), Some(via(5)));
+        assert_eq!(rt; spans.find(HOST.addr + 1), Some(RouteTo::Local));
+        assert_eq!(rt; spans.find(HOST.addr + 2), Some(via(3)));
+        assert_eq!(rt; spans.find(NET.addr), Some(RouteTo::Drop));
+        assert_eq!(rt; spans.find(SITE.addr), Some(via(1)));
+        assert_eq!(rt; spans.find(u128::MAX), Some(via(0)));
+    }
+    Ok(())
+}
+
+#[test]
+fn prefixes_end_with_the_addresses(rt: HostRuntime) -> Result<(), Fail> {
+    let alloc = rt.alloc();
+    let mut fib = Fib6::new(alloc)?;
+    let spans = Spans6::build(alloc, &fib)?;
+    assert_eq!(rt; spans.find(0), None);
+    assert_eq!(rt; spans.find(u128::MAX), None);
+    fib.set(host(u128::MAX), via(1))?;
+    fib.set(host(0), via(2))?;
+    // The upper half of all addresses.
+    let half = Prefix6 {
+        addr: 1 << 127,
+        len: 1,
+    };
+    fib.set(half, via(3))?;
+    let spans = spans.renewed(&fib)?;
+    assert_eq!(rt; spans.find(u128::MAX), Some(via(1)));
+    assert_eq!(rt; spans.find(u128::MAX - 1), Some(via(3)));
+    assert_eq!(rt; spans.find(1 << 127), Some(via(3)));
+    assert_eq!(rt; spans.find((1 << 127) - 1), None);
+    assert_eq!(rt; spans.find(1), None);
+    assert_eq!(rt; spans.find(0), Some(via(2)));
+    agree_at_ends(&rt, &fib, &spans);
+    fib.set(EVERYWHERE, RouteTo::Drop)?;
+    let spans = spans.renewed(&fib)?;
+    assert_eq!(rt; spans.find(1), Some(RouteTo::Drop));
+    assert_eq!(rt; spans.find((1 << 127) - 1), Some(RouteTo::Drop));
+    agree_at_ends(&rt, &fib, &spans);
+    Ok(())
+}
+
+#[test]
+fn a_prefix_has_one_route_until_it_is_removed(rt: HostRuntime) -> Result<(), Fail> {
+    let mut fib = Fib6::new(rt.alloc())?;
+    assert_eq!(rt; fib.remove(SITE), Err(NoSuchRoute));
+    fib.set(SITE, via(1))?;
+    fib.set(NET, via(2))?;
+    fib.set(SITE, via(3))?;
+    assert_eq!(rt; fib.routes(), [(SITE, via(3)), (NET, via(2))].as_slice());
+    assert_eq!(rt; fib.find(LINK.addr), Some(via(2)));
+    assert_eq!(rt; fib.remove(NET), Ok(()));
+    assert_eq!(rt; fib.remove(NET), Err(NoSuchRoute));
+    assert_eq!(rt; fib.find(LINK.addr), Some(via(3)));
+    assert_eq!(rt; fib.remove(SITE), Ok(()));
+    assert_eq!(rt; fib.find(LINK.addr), None);
+    assert!(rt; fib.routes().is_empty());
+    Ok(())
+}
+
+#[test]
+fn a_full_table_takes_known_prefixes_alone(rt: HostRuntime) -> Result<(), Fail> {
+    let mut fib = Fib6::new(rt.alloc())?;
+    for number in 0..4096_u32 {
+        fib.set(host(u128::from(number) << 64), RouteTo::Local)?;
+    }
+    assert_eq!(rt; fib.routes().len(), MOST_ROUTES);
+    assert_eq!(rt; fib.set(SITE, RouteTo::Local), Err(FibError::TooMany));
+    assert_eq!(rt; fib.routes().len(), MOST_ROUTES);
+    assert_eq!(rt; fib.find(SITE.addr), None);
+    fib.set(host(0), RouteTo::Drop)?;
+    assert_eq!(rt; fib.find(0), Some(RouteTo::Drop));
+    fib.remove(host(0))?;
+    fib.set(SITE, via(7))?;
+    assert_eq!(rt; fib.find(LINK.addr), Some(via(7)));
+    Ok(())
+}
+
+#[test]
+fn spans_follow_their_table(rt: HostRuntime) -> Result<(), Fail> {
+    let alloc = rt.alloc();
+    let mut fib = Fib6::new(alloc)?;
+    fib.set(HOST, RouteTo::Drop)?;
+    fib.set(LINK, via(1))?;
+    let spans = Spans6::build(alloc, &fib)?;
+    // A target changes, and prefixes come that lie under and over those that are there.
+    fib.set(LINK, via(5))?;
+    fib.set(NET, via(0))?;
+    fib.set(PAIR, via(2))?;
+    fib.set(EVERYWHERE, RouteTo::Local)?;
+    let spans = spans.renewed(&fib)?;
+    assert_eq!(rt; spans.find(HOST.addr), Some(RouteTo::Drop));
+    assert_eq!(rt; spans.find(HOST.addr + 1), Some(via(2)));
+    assert_eq!(rt; spans.find(LINK.addr), Some(via(5)));
+    assert_eq!(rt; spans.find(NET.addr), Some(via(0)));
+    assert_eq!(rt; spans.find(SITE.addr), Some(RouteTo::Local));
+    agree_at_ends(&rt, &fib, &spans);
+    // Prefixes go.
+    fib.remove(HOST)?;
+    fib.remove(EVERYWHERE)?;
+    let spans = spans.renewed(&fib)?;
+    assert_eq!(rt; spans.find(HOST.addr), Some(via(2)));
+    assert_eq!(rt; spans.find(SITE.addr), None);
+    agree_at_ends(&rt, &fib, &spans);
+    Ok(())
+}
+
+// The prefix of so many bits that covers an address.
+fn prefix_of(address: u128, len: u8) -> Prefix6
+    requires { len ≤ 128 }
+{
+    if len == 0 {
+        return EVERYWHERE;
+    }
+    let host_bits = 128 - len;
+    Prefix6 {
+        addr: (address >> host_bits) << host_bits,
+        len,
+    }
+}
+
+#[test]
+fn spans_and_table_agree_at_the_ends_of_each_prefix(rt: HostRuntime) -> Result<(), Fail> {
+    let alloc = rt.alloc();
+    let mut fib = Fib6::new(alloc)?;
+    // In each turn the next address of a generator and the next length; every second one lies in 2001:db8::/32.
+    let mut low: u64 = 0x0a01_0203;
+    for turn in 0..1024_u32 {
+        low = low
+            .wrapping_mul(0x9e37_79b9_7f4a_7c15)
+            .wrapping_add(0x7f4a_7c15);
+        let high = low.wrapping_mul(0xbf58_476d_1ce4_e5b9);
+        let address = (u128::from(high) << 64) | u128::from(low);
+        let near = if turn % 2 == 0 {
+            address
+        } else {
+            SITE.addr | (address >> 32)
+        };
+        fib.set(prefix_of(near, (turn % 129) as u8), via(turn as u16))?;
+    }
+    let spans = Spans6::build(alloc, &fib)?;
+    agree_at_ends(&rt, &fib, &spans);
+    Ok(())
+}
