@@ -1,6 +1,6 @@
 -- The files of a check, and what is found of them.
 use Rattle.std.specs.Prelude.{◌≡◌, ◌⊎◌, ◌↔◌, ℕ, ◌+◌, List, [], Option, Ok}
-use Rattle.vg_model.specs.Visit.{ip4_visit}
+use Rattle.vg_files.specs.Kinds.{vgd_visit}
 use Rattle.vg_outside.specs.Files.{Files, FirstBytes, HoldsBytes}
 use Rattle.vg_capture.specs.declared.captures.Capture.{Capture}
 use Rattle.vg_capture.specs.Savefile.{capture_of, largest_file}
@@ -62,7 +62,7 @@ pub record AreInputs (bytes : CheckBytes) (capture : Capture) (plan : Planned) :
 
 -- what is checked, with so many slots in a queue: the savefile and the report, against the capture and the plan
 abbrev pub case_in : (queue : ℕ) → CheckBytes → Capture → Planned → Case
-case_in queue bytes capture plan = case_of ip4_visit plan capture queue bytes.tx bytes.report
+case_in queue bytes capture plan = case_of vgd_visit plan capture queue bytes.tx bytes.report
 
 -- the capture and the script are accepted, and this is the verdict on the savefile and the report
 pub record IsJudged (queue : ℕ) (bytes : CheckBytes) (verdict : Verdict) : Type 0 where

@@ -1,3 +1,4 @@
+pub mod Kinds
 pub mod Files
 pub mod Plan
 pub mod Checks

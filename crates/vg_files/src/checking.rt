@@ -5,6 +5,7 @@ ghost use Rattle.vg_words.specs.Shown.{check_shown};
 ghost use Rattle.vg_files.specs.Checks.{AreFirstChecked, IsCheckedNext, IsJudged, bytes_checked, inputs_in};
 ghost use Rattle.vg_files.specs.Stops.{OnRefusal, IsLoadOf, IsRefusedFor};
 
+use crate::kinds::KINDS;
 use crate::loading::{Files, load_file};
 use crate::reading::{Input, read_files};
 use crate::refusals::Stop;
@@ -12,7 +13,6 @@ use std::alloc::Global;
 use vg_capture::LARGEST_FILE;
 use vg_check::{Verdict, check as verdict_on};
 use vg_model::{Bytes, Memory};
-use vg_nodes::Ip4Kinds;
 use vg_outside::Folder;
 use vg_script::LARGEST_SCRIPT;
 use vg_words::Check;
@@ -76,7 +76,7 @@ pub fn judge<'a>(alloc: Global, files: CheckFiles, queue: u64) -> Result<Verdict
         &plan,
         &capture,
         queue,
-        &Ip4Kinds,
+        &KINDS,
         tx.as_slice(),
         report.as_slice(),
     ) {

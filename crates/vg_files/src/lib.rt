@@ -2,16 +2,18 @@
 //!
 //! [`load_files`] loads the capture, the script and the turns file of a run, and [`read_files`] says what they say, or why they are
 //! refused; [`load_checked`] and [`judge`] do the same for a check. [`Refusal`] has the exit status and the line of each refusal, and
-//! [`print`] writes a whole text to a sink.
+//! [`print`] writes a whole text to a sink. [`KINDS`] are the kinds of nodes that runs and checks visit.
 #![tactic(auto)]
 
 mod checking;
+mod kinds;
 mod loading;
 mod printing;
 mod reading;
 mod refusals;
 
 pub use checking::{CheckFiles, judge, load_checked};
+pub use kinds::{KINDS, VgdKinds};
 pub use loading::{Files, load_files};
 pub use printing::print;
 pub use reading::{Input, read_files, read_script};

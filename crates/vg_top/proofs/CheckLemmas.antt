@@ -4,7 +4,7 @@ use Rattle.std.specs.Prelude.{Some, None, Result, Ok, Err, IfOk, codes}
 use Rattle.std.proofs.lemmas.Option.{same_Some}
 use Rattle.vg_model.specs.declared.Memory.{Memory}
 use Rattle.vg_model.specs.Graph.{Graph}
-use Rattle.vg_model.specs.Visit.{ip4_visit}
+use Rattle.vg_files.specs.Kinds.{vgd_visit}
 use Rattle.vg_outside.specs.Files.{FailedLoad}
 use Rattle.vg_capture.specs.declared.captures.Capture.{Capture}
 use Rattle.vg_capture.specs.declared.errors.CaptureError.{CaptureError}
@@ -230,11 +230,11 @@ module _ (check other : Check) (bytes others : CheckBytes) (same : IsSame check 
 
   same_case : case_in other.queue others other_capture other_plan ≡ case_in check.queue bytes capture plan
   same_case =
-      ap (λ (c : Check). case_of ip4_visit other_plan other_capture c.queue others.tx others.report) same.check_is
-      ∙ ap (λ (c : Capture). case_of ip4_visit other_plan c check.queue others.tx others.report) same_captures
-      ∙ ap (λ (p : Planned). case_of ip4_visit p capture check.queue others.tx others.report) same_plans
-      ∙ ap (λ (tx : List ℕ). case_of ip4_visit plan capture check.queue tx others.report) same.tx
-      ∙ ap (λ (report : List ℕ). case_of ip4_visit plan capture check.queue bytes.tx report) same.report
+      ap (λ (c : Check). case_of vgd_visit other_plan other_capture c.queue others.tx others.report) same.check_is
+      ∙ ap (λ (c : Capture). case_of vgd_visit other_plan c check.queue others.tx others.report) same_captures
+      ∙ ap (λ (p : Planned). case_of vgd_visit p capture check.queue others.tx others.report) same_plans
+      ∙ ap (λ (tx : List ℕ). case_of vgd_visit plan capture check.queue tx others.report) same.tx
+      ∙ ap (λ (report : List ℕ). case_of vgd_visit plan capture check.queue bytes.tx report) same.report
 
   accepted_there : IsAccepted (case_in other.queue others other_capture other_plan) → IsAccepted (case_in check.queue bytes capture plan)
   accepted_there a = subst IsAccepted same_case a

@@ -1,7 +1,7 @@
 -- For `run_load` and `run_both`: what a run of a load comes to.
 use Rattle.std.proofs.Common.{◌≡◌, ◌∙◌, ℕ, zero, suc, ◌≤◌, false, length, refl, ap, arith}
 use Rattle.std.proofs.lemmas.List.{length-map}
-use Rattle.vg_model.specs.Visit.{ip4_visit}
+use Rattle.vg_files.specs.Kinds.{vgd_visit}
 use Rattle.vg_model.specs.Journey.{fate_of}
 use Rattle.vg_capture.specs.declared.captures.Capture.{Capture}
 use Rattle.vg_plan.specs.Plan.{Planned, IsPlan, first_generation}
@@ -28,7 +28,7 @@ load_range workers within =
 
 -- each packet comes to an end
 pub all_ended : (plan : Planned) (options : Options) (capture : Capture) (outcome : Outcome)
-    → IsOutcome ip4_visit false plan.graphs (first_generation plan.script capture) capture options outcome → AreInRange options → IsPlan plan
+    → IsOutcome vgd_visit false plan.graphs (first_generation plan.script capture) capture options outcome → AreInRange options → IsPlan plan
     → length outcome.fates ≡ length capture.packets
 all_ended plan options capture outcome is range planned =
     ap length is.are_fates ∙ length-map is.js fate_of ∙ (own plan options capture outcome false is range planned).1

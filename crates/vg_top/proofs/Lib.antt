@@ -2,6 +2,7 @@ pub mod CheckLemmas
 pub mod CountedLoadLemmas
 pub mod ExpectedLemmas
 pub mod FileLemmas
+pub mod KindLemmas
 pub mod LosslessLemmas
 pub mod OutputLemmas
 pub mod RunLemmas

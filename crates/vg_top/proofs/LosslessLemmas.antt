@@ -5,7 +5,7 @@ use Rattle.std.specs.List.{AllByRecursion}
 use Rattle.vg_model.specs.declared.kinds.DropError.TheVariants.{HandoffLimit}
 use Rattle.vg_model.specs.declared.fates.Fate.{Fate}
 use Rattle.vg_model.specs.Graph.{Graph}
-use Rattle.vg_model.specs.Visit.{ip4_visit}
+use Rattle.vg_files.specs.Kinds.{vgd_visit}
 use Rattle.vg_steps.specs.Seated.{TableId}
 use Rattle.vg_ring.specs.declared.ends.RingTx.{RingTx}
 use Rattle.vg_ring.specs.Ends.{put, taken, tx_ring, tx_slots, rx_ring}
@@ -23,7 +23,7 @@ use Rattle.vg_check.specs.Output.{Setting, IsOutput}
 use Rattle.vg_check.specs.OneWorker.{alone}
 use Rattle.vg_check.specs.Congestion.{NamesNoRefusal, NamesNoDropBy}
 use Rattle.vg_check.proofs.CongestionLemmas.{none_congested, lossless_alike}
-use Rattle.vg_check.proofs.CourseLemmas.{own_visit}
+use Rattle.vg_top.proofs.KindLemmas.{own_visits}
 use Rattle.vg_top.specs.Lossless.{ring_of, slots_of, room_for, HoldsBack, IsLossless}
 use Rattle.vg_reporting.specs.Reports.{line_of_fate}
 
@@ -66,20 +66,20 @@ none_refused g (fate ∷ fates) none = (none.0, none_refused g fates none.1)
 
 -- where there is one generation, one worker saves the same
 alike_by : (graphs : List Graph) (first : ℕ → ℕ) (setting : Setting) (capture : Capture) (report : Report) (tx : List ℕ) → AllByRecursion IsGeneration graphs
-    → IsOutput ip4_visit graphs first setting capture report tx → NamesNoRefusal report → length graphs ≡ 1 → NamesNoDropBy HandoffLimit report
-    → (other : Report) × IsOutput ip4_visit graphs first (alone setting) capture other tx
+    → IsOutput vgd_visit graphs first setting capture report tx → NamesNoRefusal report → length graphs ≡ 1 → NamesNoDropBy HandoffLimit report
+    → (other : Report) × IsOutput vgd_visit graphs first (alone setting) capture other tx
 alike_by [] first setting capture report tx sound output none one limit = absurd (omega (arith, one))
 alike_by (g ∷ []) first setting capture report tx sound output none one limit =
-    lossless_alike ip4_visit g first setting capture report tx own_visit sound.0.valid output none limit
+    lossless_alike vgd_visit g first setting capture report tx own_visits sound.0.valid output none limit
 alike_by (g ∷ h ∷ graphs) first setting capture report tx sound output none one limit = absurd (omega (arith, one))
 
 pub lossless_by : (graphs : List Graph) (first : ℕ → ℕ) (setting : Setting) (capture : Capture) (report : Report) (tx : List ℕ) (g : Graph) (fates : List Fate) → AllByRecursion IsGeneration graphs
-    → IsOutput ip4_visit graphs first setting capture report tx → report.packets ≡ map (line_of_fate g) fates → NoneCongested fates
-    → IsLossless ip4_visit graphs first setting capture report tx
+    → IsOutput vgd_visit graphs first setting capture report tx → report.packets ≡ map (line_of_fate g) fates → NoneCongested fates
+    → IsLossless vgd_visit graphs first setting capture report tx
 lossless_by graphs first setting capture report tx g fates sound output lines none =
     let no_refusal : NamesNoRefusal report = subst (AllByRecursion (λ (line : PacketLine). line.congested ≡ None)) (sym lines) (none_refused g fates none) in
     record {
       no_refusal = no_refusal;
-      no_congestion = none_congested ip4_visit graphs first setting capture report tx own_visit output no_refusal;
+      no_congestion = none_congested vgd_visit graphs first setting capture report tx own_visits output no_refusal;
       alike = alike_by graphs first setting capture report tx sound output no_refusal;
     }

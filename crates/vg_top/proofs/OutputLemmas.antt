@@ -6,7 +6,7 @@ use Rattle.std.proofs.lemmas.List.{length-map}
 use Rattle.std.proofs.lemmas.Option.{none-some, same_Some}
 use Rattle.vg_model.specs.Graph.{Graph, Node, with_routes}
 use Rattle.vg_model.specs.Name.{IsName}
-use Rattle.vg_model.specs.Visit.{ip4_visit}
+use Rattle.vg_files.specs.Kinds.{vgd_visit}
 use Rattle.vg_model.specs.Journey.{Journey, fates, end_of}
 use Rattle.vg_model.specs.Lawful.{AreLawfulChoices}
 use Rattle.vg_model.specs.Count.{trace, node_count, interface_count}
@@ -32,7 +32,7 @@ use Rattle.vg_check.specs.Output.{Setting, IsOutput, report_of, choices_of, last
 use Rattle.vg_check.specs.OneWorker.{alone, HasOwnEnds}
 use Rattle.vg_check.proofs.AlikeLemmas.{sends_alike}
 use Rattle.vg_check.proofs.CongestionLemmas.{counted_ends}
-use Rattle.vg_check.proofs.CourseLemmas.{own_visit}
+use Rattle.vg_top.proofs.KindLemmas.{own_visits}
 use Rattle.vg_check.proofs.JourneyLemmas.{IsOwn, own_journeys, chosen_lawfully}
 use Rattle.vg_check.proofs.LawfulLemmas.{IsReportable, report_lawful}
 use Rattle.vg_check.proofs.OutputLemmas.{named_are}
@@ -91,15 +91,15 @@ reported_with options generations outcome last js buffers are_fates counts are_t
 
 -- where there is one generation, one worker saves the same
 alike_by : (graphs : List Graph) (first : ℕ → ℕ) (setting : Setting) (capture : Capture) (report : Report) (tx : List ℕ) → AllByRecursion IsGeneration graphs
-    → IsOutput ip4_visit graphs first setting capture report tx → length graphs ≡ 1 → HasOwnEnds report
-    → (other : Report) × IsOutput ip4_visit graphs first (alone setting) capture other tx
+    → IsOutput vgd_visit graphs first setting capture report tx → length graphs ≡ 1 → HasOwnEnds report
+    → (other : Report) × IsOutput vgd_visit graphs first (alone setting) capture other tx
 alike_by [] first setting capture report tx sound output one own = absurd (omega (arith, one))
-alike_by (g ∷ []) first setting capture report tx sound output one own = sends_alike ip4_visit g first setting capture report tx sound.0.valid output own
+alike_by (g ∷ []) first setting capture report tx sound output one own = sends_alike vgd_visit g first setting capture report tx sound.0.valid output own
 alike_by (g ∷ h ∷ graphs) first setting capture report tx sound output one own = absurd (omega (arith, one))
 
 -- a run's outcome by a plan
 module _ (plan : Planned) (options : Options) (capture : Capture) (outcome : Outcome) (lossless : Bool)
-    (is : IsOutcome ip4_visit lossless plan.graphs (first_generation plan.script capture) capture options outcome) where
+    (is : IsOutcome vgd_visit lossless plan.graphs (first_generation plan.script capture) capture options outcome) where
   -- the last graph is that of the outcome, with its routes
   whole : with_routes outcome.last is.last.routes is.last.routes6 ≡ last_graph plan.graphs
   whole = is.last_is ∙ sym (last_is plan.graphs is.last is.is_last.is)
@@ -118,10 +118,10 @@ module _ (plan : Planned) (options : Options) (capture : Capture) (outcome : Out
       let first : ℕ → ℕ = first_generation plan.script capture in
       let is_report : report ≡ report_of (setting_in options) plan.graphs is.js = made ∙ reported_is in
       let named : choices_of report ≡ is.choices =
-      ap choices_of is_report ∙ named_are ip4_visit plan.graphs options.workers (frames_of capture) is.choices is.js (setting_in options) plan.graphs is.lawful.are_journeys in
-      let output : IsOutput ip4_visit plan.graphs first (setting_in options) capture report results.tx = record {
+      ap choices_of is_report ∙ named_are vgd_visit plan.graphs options.workers (frames_of capture) is.choices is.js (setting_in options) plan.graphs is.lawful.are_journeys in
+      let output : IsOutput vgd_visit plan.graphs first (setting_in options) capture report results.tx = record {
         js = is.js;
-        lawful = subst (λ cs. AreLawfulChoices ip4_visit plan.graphs options.workers options.queue first (frames_of capture) cs is.js) (sym named) is.lawful;
+        lawful = subst (λ cs. AreLawfulChoices vgd_visit plan.graphs options.workers options.queue first (frames_of capture) cs is.js) (sym named) is.lawful;
         reported = is_report;
         saved = saved ∙ ap (savefile capture) is.are_sent;
       } in
@@ -143,7 +143,7 @@ module _ (plan : Planned) (options : Options) (capture : Capture) (outcome : Out
   -- each packet has a journey of its own
   pub own : AreInRange options → IsPlan plan → AllByRecursion (IsOwn options.workers (length (frames_of capture))) is.js × (length is.js ≡ length (frames_of capture))
   own range planned =
-      own_journeys ip4_visit options.workers range.workers.0 plan.graphs planned.generations (frames_of capture) is.choices is.js is.lawful.are_journeys
+      own_journeys vgd_visit options.workers range.workers.0 plan.graphs planned.generations (frames_of capture) is.choices is.js is.lawful.are_journeys
 
   -- what the report is made from is in range
   pub reportable : AreInRange options → IsPlan plan → length plan.graphs ≡ length (events plan.script) + 1 → length capture.packets ≤ 65536
@@ -174,7 +174,7 @@ module _ (plan : Planned) (options : Options) (capture : Capture) (outcome : Out
       → AllByRecursion (λ (entry : List ℕ × ℕ). IsName entry.0) report.nodes → IsLawful report
   made_lawful report range planned count few_packets made interfaces nodes =
       report_lawful (setting_in options) plan.graphs (length (frames_of capture)) is.js report (made ∙ reported_is) (reportable range planned count few_packets)
-      (counted_ends ip4_visit own_visit options.workers plan.graphs (frames_of capture) is.choices is.js is.lawful.are_journeys) interfaces nodes
+      (counted_ends vgd_visit own_visits options.workers plan.graphs (frames_of capture) is.choices is.js is.lawful.are_journeys) interfaces nodes
 
   -- each node of a trace is one of the last graph's
   pub traced_within : AllByRecursion (AllByRecursion (λ node. node < length outcome.last.nodes)) outcome.trace

@@ -1,6 +1,6 @@
 -- What is due where a run stops, and where it ends.
 use Rattle.std.specs.Prelude.{◌≡◌, ◌⊎◌, ℕ, Bool, true, List, length, Option, None, IsSomeAnd}
-use Rattle.vg_model.specs.Visit.{ip4_visit}
+use Rattle.vg_files.specs.Kinds.{vgd_visit}
 use Rattle.vg_capture.specs.declared.captures.Capture.{Capture}
 use Rattle.vg_report.specs.declared.reports.Report.{Report}
 use Rattle.vg_report.specs.Lawful.{IsLawful}
@@ -35,11 +35,11 @@ pub record AreResultsOf (plan : Planned) (options : Options) (hold : Bool) (capt
   pub report : Report
   pub lawful : IsLawful report
   pub is_text : results.report ≡ text report
-  pub output : IsOutput ip4_visit plan.graphs (first_generation plan.script capture) (setting_in options) capture report results.tx
+  pub output : IsOutput vgd_visit plan.graphs (first_generation plan.script capture) (setting_in options) capture report results.tx
   pub end : HasEnded options.workers options.buffers plan.graphs (frames_of capture) output.js results.end
   pub alike : length plan.graphs ≡ 1 → HasOwnEnds report
-      → (other : Report) × IsOutput ip4_visit plan.graphs (first_generation plan.script capture) (alone (setting_in options)) capture other results.tx
-  pub lossless : hold ≡ true → IsLossless ip4_visit plan.graphs (first_generation plan.script capture) (setting_in options) capture report results.tx
+      → (other : Report) × IsOutput vgd_visit plan.graphs (first_generation plan.script capture) (alone (setting_in options)) capture other results.tx
+  pub lossless : hold ≡ true → IsLossless vgd_visit plan.graphs (first_generation plan.script capture) (setting_in options) capture report results.tx
 
 -- a run is done, and this is its end; or a load or a check is, which have none
 abbrev pub AreDone : Call → List ℕ → Option RunEnd → Type 0

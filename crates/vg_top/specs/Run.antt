@@ -2,7 +2,7 @@
 use Rattle.std.specs.Prelude.{◌≡◌, ◌≢◌, ◌⊎◌, ℕ, ◌++◌, true, List, [], ◌∷◌, length, codes, Option, Some, None, Ok, Err}
 use Rattle.std.specs.Borrow.{Bor}
 use Rattle.vg_model.specs.Graph.{Graph}
-use Rattle.vg_model.specs.Visit.{ip4_visit}
+use Rattle.vg_files.specs.Kinds.{vgd_visit}
 use Rattle.vg_outside.specs.Files.{Files, Rose, FailedLoad, HoldsBytes, SameElsewhere}
 use Rattle.vg_capture.specs.declared.captures.Capture.{Capture}
 use Rattle.vg_capture.specs.declared.errors.CaptureError.{CaptureError}
@@ -68,16 +68,16 @@ pub record IsDone (call : Call) (line : List ℕ) : Type 0 where
   pub report : Report
   pub tx : List ℕ
   pub accepted : AreAccepted call run capture script graphs
-  pub output : IsOutput ip4_visit graphs (first_generation script capture) (setting_of run) capture report tx
+  pub output : IsOutput vgd_visit graphs (first_generation script capture) (setting_of run) capture report tx
   pub lawful : IsLawful report
   pub printed : line ≡ text report
   pub saved : HoldsBytes call.files_after run.tx tx
   pub others : SameElsewhere call.files call.files_after run.tx
   -- where there is one generation, and no packet was dropped by a full queue or by the limit of legs, one worker saves the same
   pub alike : length graphs ≡ 1 → HasOwnEnds report
-      → (other : Report) × IsOutput ip4_visit graphs (first_generation script capture) (alone (setting_of run)) capture other tx
+      → (other : Report) × IsOutput vgd_visit graphs (first_generation script capture) (alone (setting_of run)) capture other tx
   -- where the words ask to hold frames back, no queue refuses one
-  pub lossless : run.hold ≡ true → IsLossless ip4_visit graphs (first_generation script capture) (setting_of run) capture report tx
+  pub lossless : run.hold ≡ true → IsLossless vgd_visit graphs (first_generation script capture) (setting_of run) capture report tx
 
 -- and this is the end of the run whose report was printed
 abbrev pub IsEndOf : {call : Call} {line : List ℕ} → IsDone call line → RunEnd → Type 0

@@ -1,6 +1,6 @@
 //! A run: from the words to the status and the text that are due.
 ghost use Rattle.std.specs.Prelude.{◌≡◌, ◌<◌, ◌≤◌, ◌^◌, ℕ, List, [], false, length, All, None, option_map, unwrap_or, IfOk, OnErr};
-ghost use Rattle.vg_model.specs.Visit.{ip4_visit};
+ghost use Rattle.vg_files.specs.Kinds.{vgd_visit};
 ghost use Rattle.vg_capture.specs.Savefile.{savefile};
 ghost use Rattle.vg_plan.specs.Plan.{first_generation};
 ghost use Rattle.vg_dispatch.specs.Progress.{AreInRange};
@@ -24,11 +24,10 @@ use std::thread::Threads;
 use vg_capture::{Capture, Savefile, know_few};
 use vg_dispatch::{Links, SentList};
 use vg_engine::{Options, Outcome, links_of, run_threads, run_turns};
-use vg_files::{Input, Refusal, load_files, read_files};
+use vg_files::{Input, KINDS, Refusal, load_files, read_files};
 use vg_hands::{HandFrame, Handoff};
 use vg_load::Load;
 use vg_model::{Bytes, Memory};
-use vg_nodes::Ip4Kinds;
 use vg_outside::{Folder, Gate};
 use vg_report::write_report;
 use vg_words::{Command, Run, read_words};
@@ -79,12 +78,12 @@ fn run_linked<H: Handoff<HandFrame> + Send, R: Wait + Threads + Sync, G: Gate>(
     requires options { AreInRange input.now.options.now }
     requires links { AreLinked H.accepted H.ring H.slots input.now.options.now.workers input.now.options.now.queue links.workers.items }
     requires turns { AreTurns input.now.options.now.workers (unwrap_or (option_map (λ bytes. bytes.now) turns) []) }
-    ensures { IfOk result (IsOutcome ip4_visit H.LOSSLESS input.now.plan.now.graphs
+    ensures { IfOk result (IsOutcome vgd_visit H.LOSSLESS input.now.plan.now.graphs
         (first_generation input.now.plan.now.script input.now.capture.now) input.now.capture.now input.now.options.now) }
 {
     match turns {
-        Some(turns) => run_turns(rt, alloc, input, &Ip4Kinds, links, gate, turns),
-        None => run_threads(rt, alloc, input, &Ip4Kinds, links, gate),
+        Some(turns) => run_turns(rt, alloc, input, &KINDS, links, gate, turns),
+        None => run_threads(rt, alloc, input, &KINDS, links, gate),
     }
 }
 
@@ -100,7 +99,7 @@ pub fn run_workers<R: Wait + Threads + Sync, G: Gate>(
 ) -> Result<Outcome, Memory>
     requires options { AreInRange input.now.options.now }
     requires turns { AreTurns input.now.options.now.workers (unwrap_or (option_map (λ bytes. bytes.now) turns) []) }
-    ensures { IfOk result (IsOutcome ip4_visit hold input.now.plan.now.graphs
+    ensures { IfOk result (IsOutcome vgd_visit hold input.now.plan.now.graphs
         (first_generation input.now.plan.now.script input.now.capture.now) input.now.capture.now input.now.options.now) }
 {
     if hold {

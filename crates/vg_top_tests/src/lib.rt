@@ -7,6 +7,8 @@ mod captures;
 #[cfg(test)]
 mod checks;
 #[cfg(test)]
+mod dual_stack;
+#[cfg(test)]
 mod holds;
 #[cfg(test)]
 mod lengths;
@@ -22,6 +24,8 @@ mod other_kinds;
 mod refusals;
 #[cfg(test)]
 mod runs;
+#[cfg(test)]
+mod vlans;
 #[cfg(test)]
 mod walked;
 #[cfg(test)]

@@ -29,32 +29,49 @@ fn assert_done<R: Abort + Wait + Threads + Sync + AllocGlobal>(
     assert_accepted(rt, ran, capture, script, saved, printed)
 }
 
-#[test]
-fn packets_end_at_a_node_of_such_a_kind(rt: HostRuntime) -> Result<(), Fail> {
-    let alloc = rt.alloc();
-    let kinds = [
-        "ethernet-dual",
-        "ip6-input",
-        "ip6-lookup",
-        "ip6-rewrite",
-        "dot1q-match-1",
-        "dot1q-match-4094",
-        "dot1q-push-100",
+/// What becomes of an IPv4 packet, an IPv6 packet and a tagged frame at a node of a kind, whose slots lead to the node that drops.
+const ENDS: [(&str, [&str; 3]); 10] = [
+    ("ethernet-dual", [LED, LED, "x unknown-type"]),
+    ("ip6-input", ["x short", LED, "x short"]),
+    ("ip6-lookup", ["x unchecked", "x no-route", "x unchecked"]),
+    ("ip6-rewrite", ["x unchecked", "x no-route", "x unchecked"]),
+    ("dot1q-match-1", [LED, LED, LED]),
+    ("dot1q-match-4094", [LED, LED, LED]),
+    ("dot1q-push-100", [LED, LED, LED]),
+    (
         "dot1q-rewrite-300",
-        "xconnect-0",
+        ["x unknown-type", "x unknown-type", LED],
+    ),
+    ("xconnect-0", [LED, LED, LED]),
+    (
         "xconnect-15",
-    ];
+        ["x interface-down", "x interface-down", "x interface-down"],
+    ),
+];
+
+/// The end of a packet that a slot leads to the node that drops.
+const LED: &str = "error-drop blackhole";
+
+#[test]
+fn packets_end_at_a_node_of_such_a_kind_or_behind_it(rt: HostRuntime) -> Result<(), Fail> {
+    let alloc = rt.alloc();
     let capture = savefile(alloc, &[FRAME, IP6, TAGGED])?;
-    let printed = "vgd report 1\nworkers 1\nbuffers 4096\ngenerations 1\npackets 3\n\
-        interface 0 pg0 tx 0\nnode 0 pg-input 3\nnode 1 handoff-dequeue 0\nnode 2 ethernet-input 0\n\
-        node 3 ip4-input 0\nnode 4 ip4-lookup 0\nnode 5 ip4-rewrite 0\nnode 6 interface-output 0\n\
-        node 7 interface-tx 0\nnode 8 error-drop 3\nnode 9 x 3\nerror x blackhole 3\n\
-        packet 0 0:0 drop x blackhole\npacket 1 0:0 drop x blackhole\n\
-        packet 2 0:0 drop x blackhole\nend\n";
-    for kind in kinds {
+    for (kind, ends) in ENDS {
         let script = format!(in alloc; "node x kind {kind}\narc pg-input out x\n")?;
         let script = script.as_str().as_bytes();
-        assert_done(&rt, capture.as_slice(), script, &HEADER, printed)?;
+        let ran = run_over(&rt, &RUN, capture.as_slice(), script)?;
+        let [ip4, ip6, tagged] = ends;
+        let expected = format!(in alloc;
+            "packet 0 0:0 drop {ip4}\npacket 1 0:0 drop {ip6}\npacket 2 0:0 drop {tagged}\nend\n"
+        )?;
+        assert_eq!(rt; ran.status, 0);
+        assert!(rt;
+            ran.printed
+                .as_slice()
+                .ends_with(expected.as_str().as_bytes()),
+            "{kind}"
+        );
+        assert_eq!(rt; ran.tx.ok_or("no savefile")?.as_slice(), &HEADER);
     }
     Ok(())
 }
@@ -79,15 +96,25 @@ const NAMED: &[u8] = b"interface trunk mac 02:fe:00:00:00:01 mtu 1500 up\n\
 fn every_slot_of_such_nodes_leads_elsewhere(rt: HostRuntime) -> Result<(), Fail> {
     let alloc = rt.alloc();
     let capture = savefile(alloc, &[TAGGED, IP6])?;
+    let saved = savefile(
+        alloc,
+        &[
+            ("02fe00000000 020000000001 8100 00c8 0806 0001", 20),
+            (
+                "020000000066 02fe00000000 86dd 6000000000003b3f \
+                    20010db8000000000000000000000001 20010db8000000000000000000000002",
+                54,
+            ),
+        ],
+    )?;
     let printed = "vgd report 1\nworkers 1\nbuffers 4096\ngenerations 2\npackets 2\n\
-        interface 0 pg0 tx 0\ninterface 1 trunk tx 0\nnode 0 pg-input 2\nnode 1 handoff-dequeue 0\n\
+        interface 0 pg0 tx 1\ninterface 1 trunk tx 1\nnode 0 pg-input 2\nnode 1 handoff-dequeue 0\n\
         node 2 ethernet-input 0\nnode 3 ip4-input 0\nnode 4 ip4-lookup 0\nnode 5 ip4-rewrite 0\n\
-        node 6 interface-output 0\nnode 7 interface-tx 0\nnode 8 error-drop 2\n\
-        node 9 eth 0\nnode 10 in6 0\nnode 11 look6 0\nnode 12 re6 0\n\
-        node 13 cut 2\nnode 14 tag 0\nnode 15 cross 0\nnode 16 swap 0\n\
-        error cut blackhole 2\n\
-        packet 0 0:0 drop cut blackhole\npacket 1 0:0 drop cut blackhole\nend\n";
-    assert_done(&rt, capture.as_slice(), NAMED, &HEADER, printed)
+        node 6 interface-output 2\nnode 7 interface-tx 2\nnode 8 error-drop 0\n\
+        node 9 eth 1\nnode 10 in6 1\nnode 11 look6 1\nnode 12 re6 1\n\
+        node 13 cut 2\nnode 14 tag 1\nnode 15 cross 1\nnode 16 swap 0\n\
+        packet 0 0:0 tx trunk\npacket 1 0:0 tx pg0\nend\n";
+    assert_done(&rt, capture.as_slice(), NAMED, saved.as_slice(), printed)
 }
 
 /// A run over this script is refused with this line.

@@ -4,6 +4,8 @@
 #[cfg(test)]
 mod barrier_tests;
 #[cfg(test)]
+mod chain_tests;
+#[cfg(test)]
 mod frame_tests;
 #[cfg(test)]
 mod run_tests;

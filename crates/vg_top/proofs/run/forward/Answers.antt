@@ -2,7 +2,7 @@ use Rattle.std.proofs.Common.{◌≡◌, ℕ, ◌<◌, ◌≤◌, ◌^◌, List,
 use Rattle.std.specs.Prelude.{All}
 use Rattle.std.proofs.lemmas.List.{length-map}
 use Rattle.std.specs.List.{AllByRecursion}
-use Rattle.vg_model.specs.Visit.{ip4_visit}
+use Rattle.vg_files.specs.Kinds.{vgd_visit}
 use Rattle.vg_model.specs.Journey.{longest_extent}
 use Rattle.vg_plan.specs.Plan.{first_generation}
 use Rattle.vg_engine.specs.Outcomes.{IsOutcome}
@@ -18,7 +18,7 @@ savefile_of-requires g c =
     let capture = c.args.input.now.capture in
     let outcome = c.in_ok-outcome.outcome in
     let options = c.args.options.now in
-    let is : IsOutcome ip4_visit c.args.hold plan.graphs (first_generation plan.script capture) capture options outcome = c.in_ok-outcome.ensures in
+    let is : IsOutcome vgd_visit c.args.hold plan.graphs (first_generation plan.script capture) capture options outcome = c.in_ok-outcome.ensures in
     let within =
     are_within options.workers (length (frames_of capture)) outcome.sent is.js is.are_sent
     (own plan options capture outcome c.args.hold is c.requires.options c.generations-generations.ensures.plan).0
@@ -30,7 +30,7 @@ report-requires-clause-ends g c =
     let plan = c.args.input.now.plan in
     let capture = c.args.input.now.capture in
     let outcome = c.in_ok-outcome.outcome in
-    let is : IsOutcome ip4_visit c.args.hold plan.graphs (first_generation plan.script capture) capture c.args.options.now outcome = c.in_ok-outcome.ensures in
+    let is : IsOutcome vgd_visit c.args.hold plan.graphs (first_generation plan.script capture) capture c.args.options.now outcome = c.in_ok-outcome.ensures in
     fates_end outcome.last is.last is.js outcome.fates is.last_is is.are_fates is.ends
 
 pub report-requires-clause-traces : goal.report-requires-clause-traces
@@ -42,7 +42,7 @@ write_report-requires g c =
     let capture = c.args.input.now.capture in
     let options = c.args.options.now in
     let outcome = c.in_ok-outcome.outcome in
-    let is : IsOutcome ip4_visit c.args.hold plan.graphs (first_generation plan.script capture) capture options outcome = c.in_ok-outcome.ensures in
+    let is : IsOutcome vgd_visit c.args.hold plan.graphs (first_generation plan.script capture) capture options outcome = c.in_ok-outcome.ensures in
     let made : c.in-Ok-report.report ≡ reported options (length plan.graphs) outcome =
     c.in-Ok-report.ensures.report ∙ ap (λ n. reported options n outcome) c.generations-generations.ensures.graphs in
     made_lawful plan options capture outcome c.args.hold is c.in-Ok-report.report c.requires.options c.generations-generations.ensures.plan

@@ -1,0 +1,3 @@
+pub mod nodes
+pub mod Visit
+pub mod lawful

@@ -1,0 +1,4 @@
+pub mod Header
+pub mod nodes
+pub mod Visit
+pub mod lawful

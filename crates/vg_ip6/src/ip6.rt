@@ -1,0 +1,34 @@
+//! The IPv6 kinds (RFC 8200, section 3), around another set.
+ghost use Rattle.vg_ip6.specs.Visit.{ip6_visit};
+ghost use Rattle.vg_ip6.specs.lawful.KindLaws.{ip6_laws};
+
+use crate::nodes::ethernet_dual::ethernet_dual;
+use crate::nodes::ip6_input::ip6_input;
+use crate::nodes::ip6_lookup::ip6_lookup;
+use crate::nodes::ip6_rewrite::ip6_rewrite;
+use vg_fork::Fork;
+use vg_model::{Kind, Step};
+use vg_nodes::KindSet;
+use vg_pool::Buffer;
+
+/// The IPv6 kinds, and the node that parts IPv4 from IPv6. A node of any other kind is visited by the set in it.
+#[derive(Clone, Copy)]
+pub struct Ip6Kinds<K: KindSet>(pub K);
+
+impl<K: KindSet> KindSet for Ip6Kinds<K> {
+    ghost meaning = { ip6_visit K.meaning };
+
+    // One call for each packet and node.
+    #[inline(always)]
+    fn visit(&self, fork: &Fork, node: u16, buffer: &mut Buffer) -> Step {
+        match fork.kind(node) {
+            Kind::EthernetDual => ethernet_dual(fork, buffer),
+            Kind::Ip6Input => ip6_input(buffer),
+            Kind::Ip6Lookup => ip6_lookup(fork, buffer),
+            Kind::Ip6Rewrite => ip6_rewrite(fork, buffer),
+            _ => self.0.visit(fork, node, buffer),
+        }
+    }
+
+    ghost lawful = { ip6_laws K.meaning K.lawful };
+}
