@@ -31,6 +31,15 @@ fn add_pass(graph: &mut Graph, name: Name) -> Result<(), GraphError> {
     })
 }
 
+fn add_node(graph: &mut Graph, text: &str, kind: Kind) -> Result<(), Fail> {
+    let name = name(text)?;
+    Ok(
+        graph
+            .apply(&Edit::Node { name, kind })
+            .map_err(|_| "a node")?,
+    )
+}
+
 fn set_interface(graph: &mut Graph, name: Name, mtu: u16) -> Result<(), GraphError> {
     graph.apply(&Edit::Interface {
         name,
@@ -41,21 +50,34 @@ fn set_interface(graph: &mut Graph, name: Name, mtu: u16) -> Result<(), GraphErr
     })
 }
 
+/// What a graph answers to the edit of an adjacency.
 fn set_adjacency(
     graph: &mut Graph,
-    name: Name,
-    interface: Name,
+    i: u16,
+    interface: &str,
     last: u8,
-) -> Result<(), GraphError> {
-    graph.apply(&Edit::Adjacency {
-        name,
-        interface,
+) -> Result<Result<(), GraphError>, Fail> {
+    let edit = Edit::Adjacency {
+        name: numbered(i)?,
+        interface: name(interface)?,
         mac: Mac([2, 0, 0, 0, 0, last]),
-    })
+    };
+    Ok(graph.apply(&edit))
 }
 
-fn set_arc(graph: &mut Graph, from: Name, slot: Name, to: Name) -> Result<(), GraphError> {
-    graph.apply(&Edit::Arc { from, slot, to })
+/// What a graph answers to the edit of an arc.
+fn set_arc(
+    graph: &mut Graph,
+    from: &str,
+    slot: &str,
+    to: &str,
+) -> Result<Result<(), GraphError>, Fail> {
+    let edit = Edit::Arc {
+        from: name(from)?,
+        slot: name(slot)?,
+        to: name(to)?,
+    };
+    Ok(graph.apply(&edit))
 }
 
 /// The node that the first slot of a node leads to.
@@ -161,16 +183,13 @@ fn arcs_are_set_and_refused(rt: HostRuntime) -> Result<(), Fail> {
     }
     for (from, slot, to, answer) in ARCS {
         assert_eq!(rt;
-            set_arc(&mut graph, name(from)?, name(slot)?, name(to)?),
+            set_arc(&mut graph, from, slot, to)?,
             answer,
             "{from} {slot} {to}"
         );
     }
     let copy = graph.copy(rt.alloc()).map_err(|_| "no memory")?;
-    assert_eq!(rt;
-        set_arc(&mut graph, name("a")?, name("out")?, name("error-drop")?),
-        Ok(())
-    );
+    assert_eq!(rt; set_arc(&mut graph, "a", "out", "error-drop")?, Ok(()));
     for (text, next) in [("pg-input", 9), ("a", 2), ("b", 11), ("c", 9)] {
         assert_eq!(rt; next_of(&copy, &name(text)?), Some(next), "{text}");
     }
@@ -224,23 +243,17 @@ fn at_most_256_adjacencies_are_added(rt: HostRuntime) -> Result<(), Fail> {
     let mut graph = started(rt.alloc())?;
     assert_eq!(rt; set_interface(&mut graph, name("lan")?, 1500), Ok(()));
     for i in 0..256u16 {
-        assert_eq!(rt;
-            set_adjacency(&mut graph, numbered(i)?, name("pg0")?, 1),
-            Ok(())
-        );
+        assert_eq!(rt; set_adjacency(&mut graph, i, "pg0", 1)?, Ok(()));
     }
     assert_eq!(rt;
-        set_adjacency(&mut graph, numbered(256)?, name("nowhere")?, 1),
+        set_adjacency(&mut graph, 256, "nowhere", 1)?,
         Err(GraphError::UnknownInterface)
     );
     assert_eq!(rt;
-        set_adjacency(&mut graph, numbered(256)?, name("lan")?, 1),
+        set_adjacency(&mut graph, 256, "lan", 1)?,
         Err(GraphError::TooMany)
     );
-    assert_eq!(rt;
-        set_adjacency(&mut graph, numbered(7)?, name("lan")?, 99),
-        Ok(())
-    );
+    assert_eq!(rt; set_adjacency(&mut graph, 7, "lan", 99)?, Ok(()));
     for (i, interface, last) in [(6, 0, 1), (7, 1, 99), (8, 0, 1)] {
         assert!(rt; is_adjacency(&graph, i, &numbered(i)?, interface, last));
         assert_eq!(rt; graph.adjacency(&numbered(i)?), Some(i));
@@ -255,49 +268,31 @@ fn at_most_256_adjacencies_are_added(rt: HostRuntime) -> Result<(), Fail> {
 #[test]
 fn a_new_node_of_two_slots_drops_over_both(rt: HostRuntime) -> Result<(), Fail> {
     let mut graph = started(rt.alloc())?;
-    let cut = name("cut")?;
     let kind = Kind::Dot1qMatch(VlanId { number: 100 });
-    graph
-        .apply(&Edit::Node {
-            name: name("cut")?,
-            kind,
-        })
-        .map_err(|_| "a node")?;
-    let n = graph.node(&cut).ok_or("the node")?;
+    add_node(&mut graph, "cut", kind)?;
+    let n = graph.node(&name("cut")?).ok_or("the node")?;
     assert!(rt; graph.kind(n) == kind);
     assert!(rt; graph.kind(n).slots() == 2);
     assert_eq!(rt; (graph.arc(n, 0), graph.arc(n, 1)), (8, 8));
     // The second slot is led away, and the first stays.
-    let answer = set_arc(
-        &mut graph,
-        name("cut")?,
-        name("else")?,
-        name("ethernet-input")?,
+    assert_eq!(rt;
+        set_arc(&mut graph, "cut", "else", "ethernet-input")?,
+        Ok(())
     );
-    assert_eq!(rt; answer, Ok(()));
     assert!(rt; n < graph.nodes() && graph.kind(n) == kind);
     assert_eq!(rt; (graph.arc(n, 0), graph.arc(n, 1)), (8, 2));
     // A walk over the second slot is one too.
-    let answer = set_arc(
-        &mut graph,
-        name("ip4-rewrite")?,
-        name("output")?,
-        name("cut")?,
+    assert_eq!(rt;
+        set_arc(&mut graph, "ip4-rewrite", "output", "cut")?,
+        Err(GraphError::Cycle)
     );
-    assert_eq!(rt; answer, Err(GraphError::Cycle));
-    let answer = set_arc(
-        &mut graph,
-        name("cut")?,
-        name("match")?,
-        name("interface-tx")?,
+    assert_eq!(rt;
+        set_arc(&mut graph, "cut", "match", "interface-tx")?,
+        Ok(())
     );
-    assert_eq!(rt; answer, Ok(()));
-    let answer = set_arc(
-        &mut graph,
-        name("cut")?,
-        name("out")?,
-        name("interface-tx")?,
+    assert_eq!(rt;
+        set_arc(&mut graph, "cut", "out", "interface-tx")?,
+        Err(GraphError::UnknownSlot)
     );
-    assert_eq!(rt; answer, Err(GraphError::UnknownSlot));
     Ok(())
 }

@@ -1,4 +1,4 @@
-//! Tests of the crates that read, keep and write values and texts, a module for each, over the built libraries: beside the code
+//! Tests of values and tables, captures, graphs, plans and reports, a module for each crate, over the built libraries: beside the code
 //! they would have the whole crate proved once more. It is tests alone.
 #![tactic(auto)]
 
@@ -6,8 +6,6 @@
 mod capture;
 #[cfg(test)]
 mod draw;
-#[cfg(test)]
-mod explain;
 #[cfg(test)]
 mod fates;
 #[cfg(test)]
@@ -21,8 +19,6 @@ mod load;
 #[cfg(test)]
 mod model;
 #[cfg(test)]
-mod outside;
-#[cfg(test)]
 mod packet;
 #[cfg(test)]
 mod plan;
@@ -32,9 +28,3 @@ mod plan_routes;
 mod process;
 #[cfg(test)]
 mod report;
-#[cfg(test)]
-mod script;
-#[cfg(test)]
-mod turns;
-#[cfg(test)]
-mod words;

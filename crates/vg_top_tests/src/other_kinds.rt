@@ -71,7 +71,7 @@ fn packets_end_at_a_node_of_such_a_kind_or_behind_it(rt: HostRuntime) -> Result<
                 .ends_with(expected.as_str().as_bytes()),
             "{kind}"
         );
-        assert_eq!(rt; ran.tx.ok_or("no savefile")?.as_slice(), &HEADER);
+        assert_eq!(rt; ran.tx.ok_or("no savefile")?.as_slice(), HEADER.as_slice());
     }
     Ok(())
 }

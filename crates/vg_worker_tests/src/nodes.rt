@@ -1,5 +1,5 @@
 //! Packets that are visited and dispatched at the nodes of small graphs.
-ghost use Rattle.std.specs.Prelude.{◌≡◌, ◌+◌, ◌<◌, ℕ, Some, IfOk};
+ghost use Rattle.std.specs.Prelude.{◌≡◌, ◌+◌, ◌<◌, ℕ, Some, IfOk, []};
 ghost use Rattle.std.specs.Bool.{OnTrue};
 ghost use Rattle.vg_model.specs.Valid.{IsTarget};
 ghost use Rattle.vg_frame.specs.Placed.{IsLive, count};
@@ -77,20 +77,6 @@ fn visit(rt: &impl Abort, fork: &Fork, node: u16, buffer: &mut Buffer) -> Step {
     Ip4Kinds.visit(fork, node, buffer)
 }
 
-// Where a packet of this frame ends that goes from `ethernet-input` on: the node, and its last step.
-fn end(rt: &impl Abort, fork: &Fork, frame: &[u8], buffer: &mut Buffer) -> (u16, Step) {
-    assert!(rt; frame.len() <= 2048);
-    buffer.fill(7, frame);
-    buffer.add_leg(LEG);
-    for node in 2..7 {
-        let step = visit(rt, fork, node, buffer);
-        if step != (Step::Next { slot: 0 }) {
-            return (node, step);
-        }
-    }
-    (7, visit(rt, fork, 7, buffer))
-}
-
 // Where a packet is dropped.
 fn dropped(node: u16, error: DropError) -> (u16, Step) {
     (node, Step::Dropped { error })
@@ -116,6 +102,35 @@ fn taken_out<T: PoolLedger, G: Ledger>(
 
 fn buffer(alloc: Global) -> Result<Buffer, Fail> {
     taken_out::<Brand, Brand>(alloc, Blank::new(1), Blank::new(1))
+}
+
+// The packet of this number and frame, in a buffer of its own.
+fn received(rt: &impl Abort, alloc: Global, number: u32, frame: &[u8]) -> Result<Buffer, Fail>
+    ensures { IfOk result (λ buffer. buffer.legs ≡ []) }
+{
+    assert!(rt; frame.len() <= 2048);
+    let mut buffer = buffer(alloc)?;
+    buffer.fill(number, frame);
+    Ok(buffer)
+}
+
+// Where a packet of this frame ends that goes from `ethernet-input` on: the node, and its last step; and the packet.
+fn end(
+    rt: &impl Abort,
+    alloc: Global,
+    fork: &Fork,
+    frame: &[u8],
+) -> Result<((u16, Step), Buffer), Fail> {
+    let mut buffer = received(rt, alloc, 7, frame)?;
+    buffer.add_leg(LEG);
+    for node in 2..7 {
+        let step = visit(rt, fork, node, &mut buffer);
+        if step != (Step::Next { slot: 0 }) {
+            return Ok(((node, step), buffer));
+        }
+    }
+    let step = visit(rt, fork, 7, &mut buffer);
+    Ok(((7, step), buffer))
 }
 
 // Over one neighbor.
@@ -163,10 +178,10 @@ fn a_packet_leaves_over_the_longest_match(rt: HostRuntime) -> Result<(), Fail> {
             (TEN_ONE, via(2)),
         ],
     )?;
-    let mut buffer = buffer(alloc)?;
-    let received = header(20, 64, 0xacd4, [10, 1, 2, 3]);
-    let frame_in = frame(alloc, PG0, host(1), &received, 34)?;
-    assert_eq!(rt; end(&rt, &fork, frame_in.as_slice(), &mut buffer), SENT);
+    let came = header(20, 64, 0xacd4, [10, 1, 2, 3]);
+    let frame_in = frame(alloc, PG0, host(1), &came, 34)?;
+    let (end, buffer) = end(&rt, alloc, &fork, frame_in.as_slice())?;
+    assert_eq!(rt; end, SENT);
     let sent = header(20, 63, 0xadd4, [10, 1, 2, 3]);
     let frame_out = frame(alloc, host(0x16), PG0, &sent, 34)?;
     assert_eq!(rt; buffer.head(), frame_out.as_slice());
@@ -189,7 +204,6 @@ fn two_neighbors(alloc: Global) -> Result<Graph, Fail> {
 fn a_hash_picks_one_of_the_neighbors_of_a_route(rt: HostRuntime) -> Result<(), Fail> {
     let alloc = rt.alloc();
     let graph = two_neighbors(alloc)?;
-    let mut buffer = buffer(alloc)?;
     let mut tenth = [0; 16];
     tenth[9] = 1;
     // To 10.1.2.3 the hash is 0xcacbcbc9, whose eighth is 425294201, and to 10.1.2.11 the eighth is one less: their remainders
@@ -209,9 +223,10 @@ fn a_hash_picks_one_of_the_neighbors_of_a_route(rt: HostRuntime) -> Result<(), F
             (3, 0xacd4, 0xadd4, third),
             (11, 0xaccc, 0xadcc, eleventh),
         ] {
-            let received = header(20, 64, checksum, [10, 1, 2, last]);
-            let frame_in = frame(alloc, PG0, host(1), &received, 34)?;
-            assert_eq!(rt; end(&rt, &fork, frame_in.as_slice(), &mut buffer), SENT);
+            let came = header(20, 64, checksum, [10, 1, 2, last]);
+            let frame_in = frame(alloc, PG0, host(1), &came, 34)?;
+            let (end, buffer) = end(&rt, alloc, &fork, frame_in.as_slice())?;
+            assert_eq!(rt; end, SENT);
             let sent = header(20, 63, lowered, [10, 1, 2, last]);
             let frame_out = frame(alloc, host(neighbor), PG0, &sent, 34)?;
             assert_eq!(rt; buffer.head(), frame_out.as_slice(), "{members:?}");
@@ -224,9 +239,8 @@ fn a_hash_picks_one_of_the_neighbors_of_a_route(rt: HostRuntime) -> Result<(), F
 fn kinds_of_other_sets_drop_what_comes(rt: HostRuntime) -> Result<(), Fail> {
     let alloc = rt.alloc();
     let id = VlanId { number: 100 };
-    let received = header(20, 64, 0xacd4, [10, 1, 2, 3]);
-    let frame_in = frame(alloc, PG0, host(1), &received, 34)?;
-    let mut buffer = buffer(alloc)?;
+    let came = header(20, 64, 0xacd4, [10, 1, 2, 3]);
+    let frame_in = frame(alloc, PG0, host(1), &came, 34)?;
     for kind in [
         Kind::EthernetDual,
         Kind::Ip6Input,
@@ -243,8 +257,7 @@ fn kinds_of_other_sets_drop_what_comes(rt: HostRuntime) -> Result<(), Fail> {
             kind,
         })?;
         let fork = fork(alloc, &graph, &[])?;
-        assert!(rt; frame_in.len() <= 2048);
-        buffer.fill(7, frame_in.as_slice());
+        let mut buffer = received(&rt, alloc, 7, frame_in.as_slice())?;
         let step = visit(&rt, &fork, 9, &mut buffer);
         assert_eq!(rt; (9, step), dropped(9, DropError::Blackhole), "{kind:?}");
         assert_eq!(rt; buffer.head(), frame_in.as_slice(), "{kind:?}");
@@ -264,20 +277,18 @@ fn east(alloc: Global) -> Result<Fork, Fail> {
 fn a_time_to_live_of_2_leaves_as_1(rt: HostRuntime) -> Result<(), Fail> {
     let alloc = rt.alloc();
     let fork = east(alloc)?;
-    let mut buffer = buffer(alloc)?;
     for (ttl, checksum, expected) in [
         (1, 0xebd4, dropped(5, DropError::TtlExpired)),
         (0, 0xecd4, dropped(3, DropError::TtlZero)),
-        (2, 0xead4, SENT),
     ] {
-        let received = header(20, ttl, checksum, [10, 1, 2, 3]);
-        let frame_in = frame(alloc, PG0, host(1), &received, 34)?;
-        assert_eq!(rt; end(&rt, &fork, frame_in.as_slice(), &mut buffer), expected);
+        let came = header(20, ttl, checksum, [10, 1, 2, 3]);
+        let frame_in = frame(alloc, PG0, host(1), &came, 34)?;
+        let (end, _) = end(&rt, alloc, &fork, frame_in.as_slice())?;
+        assert_eq!(rt; end, expected);
     }
+    let came = header(20, 2, 0xead4, [10, 1, 2, 3]);
     let sent = header(20, 1, 0xebd4, [10, 1, 2, 3]);
-    let frame_out = frame(alloc, host(9), PG0, &sent, 34)?;
-    assert_eq!(rt; buffer.head(), frame_out.as_slice());
-    Ok(())
+    assert_sent(&rt, alloc, &fork, &came, &sent, 34)
 }
 
 // A frame of so many bytes with the first header leaves with the second.
@@ -285,13 +296,13 @@ fn assert_sent(
     rt: &impl Abort,
     alloc: Global,
     fork: &Fork,
-    received: &[u8],
+    came: &[u8],
     sent: &[u8],
     len: usize,
 ) -> Result<(), Fail> {
-    let mut buffer = buffer(alloc)?;
-    let frame_in = frame(alloc, PG0, host(1), received, len)?;
-    assert_eq!(rt; end(rt, fork, frame_in.as_slice(), &mut buffer), SENT);
+    let frame_in = frame(alloc, PG0, host(1), came, len)?;
+    let (end, buffer) = end(rt, alloc, fork, frame_in.as_slice())?;
+    assert_eq!(rt; end, SENT);
     let frame_out = frame(alloc, host(9), PG0, sent, len)?;
     assert_eq!(rt; buffer.head(), frame_out.as_slice());
     Ok(())
@@ -322,12 +333,9 @@ fn checksums_padding_and_options_are_kept_right(rt: HostRuntime) -> Result<(), F
 
     // A datagram that is longer than its frame.
     let long = header(21, 64, 0xacd3, [10, 1, 2, 3]);
-    let received = frame(alloc, PG0, host(1), &long, 34)?;
-    let mut buffer = buffer(alloc)?;
-    assert_eq!(rt;
-        end(&rt, &fork, received.as_slice(), &mut buffer),
-        dropped(3, DropError::BadLength)
-    );
+    let frame_in = frame(alloc, PG0, host(1), &long, 34)?;
+    let (end, _) = end(&rt, alloc, &fork, frame_in.as_slice())?;
+    assert_eq!(rt; end, dropped(3, DropError::BadLength));
     Ok(())
 }
 
@@ -360,7 +368,6 @@ fn interfaces_filter_and_go_down(rt: HostRuntime) -> Result<(), Fail> {
             ),
         ],
     )?;
-    let mut buffer = buffer(alloc)?;
     for (to, header, len, expected) in [
         (
             host(0x77),
@@ -393,8 +400,9 @@ fn interfaces_filter_and_go_down(rt: HostRuntime) -> Result<(), Fail> {
             dropped(4, DropError::NoRoute),
         ),
     ] {
-        let received = frame(alloc, to, host(1), &header, len)?;
-        assert_eq!(rt; end(&rt, &fork, received.as_slice(), &mut buffer), expected);
+        let frame_in = frame(alloc, to, host(1), &header, len)?;
+        let (end, _) = end(&rt, alloc, &fork, frame_in.as_slice())?;
+        assert_eq!(rt; end, expected);
     }
     Ok(())
 }
@@ -411,10 +419,7 @@ fn place(
     ensures kept { IfOk result (λ _. (other : ℕ) → IsLive memory.old other → IsLive memory.new other) }
     ensures one { IfOk result (λ _. count memory.new ≡ count memory.old + 1) }
 {
-    assert!(rt; frame.len() <= 2048);
-    let mut buffer = buffer(alloc)?;
-    buffer.fill(0, frame);
-    Ok(memory.place(buffer))
+    Ok(memory.place(received(rt, alloc, 0, frame)?))
 }
 
 // The three packets of these frames, dispatched at a node: their indexes, and the lists.
@@ -444,55 +449,84 @@ fn dispatched(
     Ok(([first, second, third], out))
 }
 
-#[test]
-fn a_frame_is_sorted_by_what_becomes_of_its_packets(rt: HostRuntime) -> Result<(), Fail> {
-    let alloc = rt.alloc();
+// The graph that a run starts from, with a node that hands packets over by their flow.
+fn with_handoff(alloc: Global) -> Result<Fork, Fail> {
     let mut graph = Graph::start(alloc)?;
     graph.apply(&Edit::Node {
         name: name("h")?,
         kind: Kind::WorkerHandoff(HashKind::Flow),
     })?;
-    let fork = fork(alloc, &graph, &[])?;
-    let whole = frame(
+    fork(alloc, &graph, &[])
+}
+
+// The frame of a datagram.
+fn whole(alloc: Global) -> Result<Vec<u8>, Fail> {
+    frame(
         alloc,
         PG0,
         host(1),
         &header(20, 64, 0xacd4, [10, 1, 2, 3]),
         34,
-    )?;
+    )
+}
+
+// A frame that is shorter than its header.
+const SHORT: &[u8] = &[0x02, 0xfe, 0, 0, 0, 0];
+
+#[test]
+fn packets_go_on_or_are_dropped_in_the_order_of_their_frame(rt: HostRuntime) -> Result<(), Fail> {
+    let alloc = rt.alloc();
+    let fork = with_handoff(alloc)?;
+    let whole = whole(alloc)?;
     let whole = whole.as_slice();
-    let short = &PG0.0;
-    let ([first, second, third], out) = dispatched(&rt, alloc, &fork, 2, [whole, short, whole])?;
+    let ([first, second, third], out) = dispatched(&rt, alloc, &fork, 2, [whole, SHORT, whole])?;
     assert_eq!(rt; out.next.as_slice(), [(first, 0), (third, 0)].as_slice());
     assert_eq!(rt;
         out.drops.as_slice(),
         [(second, DropError::Short)].as_slice()
     );
-    assert!(rt; out.tx.is_empty());
-    assert!(rt; out.hands.is_empty());
-    let ([first, second, third], out) = dispatched(&rt, alloc, &fork, 7, [whole, short, whole])?;
+    assert!(rt; out.tx.is_empty() && out.hands.is_empty());
+    Ok(())
+}
+
+#[test]
+fn packets_are_sent_in_the_order_of_their_frame(rt: HostRuntime) -> Result<(), Fail> {
+    let alloc = rt.alloc();
+    let fork = with_handoff(alloc)?;
+    let frames = [SHORT, SHORT, SHORT];
+    let ([first, second, third], out) = dispatched(&rt, alloc, &fork, 7, frames)?;
     assert_eq!(rt;
         out.tx.as_slice(),
         [(first, 0), (second, 0), (third, 0)].as_slice()
     );
-    let ([first, second, third], mut out) = dispatched(
-        &rt,
-        alloc,
-        &fork,
-        9,
-        [short, whole, short],
-    )?;
+    Ok(())
+}
+
+#[test]
+fn packets_are_handed_over_by_their_hashes(rt: HostRuntime) -> Result<(), Fail> {
+    let alloc = rt.alloc();
+    let fork = with_handoff(alloc)?;
+    let whole = whole(alloc)?;
+    let frames = [SHORT, whole.as_slice(), SHORT];
+    let ([first, second, third], out) = dispatched(&rt, alloc, &fork, 9, frames)?;
     assert_eq!(rt;
         out.hands.as_slice(),
         [(first, 0), (second, 0xcacb_cbc9), (third, 0)].as_slice()
     );
     assert_eq!(rt; out.hands.len(), 3);
-    out.clear();
-    assert!(rt; out.hands.is_empty());
+    Ok(())
+}
+
+#[test]
+fn lists_are_emptied_and_filled_again(rt: HostRuntime) -> Result<(), Fail> {
+    let mut out = Sorted::new(rt.alloc())?;
     out.put(5, Step::Hand { hash: 6 });
     assert_eq!(rt; out.hands.as_slice(), [(5, 6)].as_slice());
-    out.hands.clear();
+    out.clear();
+    assert!(rt; out.hands.is_empty());
     out.hands.push(7, 8);
     assert_eq!(rt; out.hands.as_slice(), [(7, 8)].as_slice());
+    out.hands.clear();
+    assert!(rt; out.hands.is_empty());
     Ok(())
 }
