@@ -117,7 +117,7 @@ def table(count=ROUTES, count6=ROUTES6):
 
 
 def events(count, packets=PACKETS):
-    """So many events, evenly over the time of the capture: each sets or takes away one route."""
+    """This number of events, evenly over the time of the capture: each sets or takes away one route."""
     lines = []
     for number in range(count):
         lines.append('at %d' % ((number + 1) * packets // (count + 1)))

@@ -88,13 +88,14 @@ fn master_of(alloc: Global, plan: &Plan) -> Result<Master, Fail> {
 }
 
 /// Where the route of an address leads after these edits.
-fn route_after(
-    alloc: Global,
-    master: &mut Master,
-    edits: &Edits,
-) -> Result<Option<RouteTo>, ScriptError> {
+fn route_after(alloc: Global, master: &mut Master, edits: &Edits) -> Result<Option<RouteTo>, Fail> {
     master.apply(alloc, edits)?;
     Ok(master.fib().find(ADDRESS))
+}
+
+/// The only neighbor.
+fn via_east() -> Option<RouteTo> {
+    Some(RouteTo::Via(Members::one(0)))
 }
 
 /// The groups of a process.
@@ -113,103 +114,109 @@ fn edits_of<'a>(plan: &'a Plan, block: usize) -> Option<&'a Edits> {
     }
 }
 
+/// Where the route of an address leads after a group of the process that is the first block.
+fn route_after_group(
+    alloc: Global,
+    master: &mut Master,
+    plan: &Plan,
+    group: usize,
+) -> Result<Option<RouteTo>, Fail> {
+    let groups = groups_of(plan, 0).ok_or("no process")?;
+    let edits = groups.as_slice().get(group).ok_or("no group")?;
+    route_after(alloc, master, edits)
+}
+
+/// Where it leads after the second block, which is one at one time.
+fn route_after_block(
+    alloc: Global,
+    master: &mut Master,
+    plan: &Plan,
+) -> Result<Option<RouteTo>, Fail> {
+    route_after(alloc, master, edits_of(plan, 1).ok_or("no at")?)
+}
+
+/// Whether these generations are in force at these times.
+fn are_in_force(plan: &Plan, generations: &[(u64, u32)]) -> bool {
+    generations.iter().all(|(time, generation)| plan.generation_of(*time) == *generation)
+}
+
 #[test]
 fn a_change_comes_at_its_time(rt: HostRuntime) -> Result<(), Fail> {
     let plan = planned(rt.alloc(), EAST)?;
     assert_eq!(rt; plan.generations(), 2);
-    assert_eq!(rt; plan.generation_of(0), 0);
-    assert_eq!(rt; plan.generation_of(999), 0);
-    assert_eq!(rt; plan.generation_of(1000), 1);
-    assert_eq!(rt; plan.generation_of(u64::MAX), 1);
+    assert!(rt; are_in_force(&plan, &[(0, 0), (999, 0), (1000, 1), (u64::MAX, 1)]));
 
     // The last packet is stamped before the change, and comes after it.
     assert_limits(&rt, rt.alloc(), &plan, &[0, 999, 1000, 500], &[2, 4])?;
-    assert_limits(&rt, rt.alloc(), &plan, &[], &[0, 0])?;
-    Ok(())
+    assert_limits(&rt, rt.alloc(), &plan, &[], &[0, 0])
 }
 
 #[test]
 fn events_at_one_time_come_by_line(rt: HostRuntime) -> Result<(), Fail> {
     let plan = planned(rt.alloc(), FLAP)?;
     assert_eq!(rt; plan.generations(), 5);
-    assert_eq!(rt; plan.generation_of(99), 0);
-    assert_eq!(rt; plan.generation_of(100), 2);
-    assert_eq!(rt; plan.generation_of(299), 3);
-    assert_eq!(rt; plan.generation_of(300), 4);
+    assert!(rt; are_in_force(&plan, &[(99, 0), (100, 2), (299, 3), (300, 4)]));
     assert_limits(
         &rt,
         rt.alloc(),
         &plan,
         &[0, 100, 200, 300],
         &[1, 1, 2, 3, 4],
-    )?;
-    Ok(())
+    )
 }
 
 #[test]
 fn a_route_flaps(rt: HostRuntime) -> Result<(), Fail> {
-    let plan = planned(rt.alloc(), FLAP)?;
-    let groups = groups_of(&plan, 0).ok_or("no process")?.as_slice();
-    assert_eq!(rt; groups.len(), 2);
-    let local = edits_of(&plan, 1).ok_or("no at")?;
-    let mut master = master_of(rt.alloc(), &plan)?;
+    let alloc = rt.alloc();
+    let plan = planned(alloc, FLAP)?;
+    let mut master = master_of(alloc, &plan)?;
+    assert_eq!(rt; master.fib().find(ADDRESS), via_east());
+    let first = route_after_group(alloc, &mut master, &plan, 0)?;
+    assert_eq!(rt; first, Some(RouteTo::Drop));
+    let between = route_after_block(alloc, &mut master, &plan)?;
+    assert_eq!(rt; between, Some(RouteTo::Local));
+    let second = route_after_group(alloc, &mut master, &plan, 1)?;
+    assert_eq!(rt; second, via_east());
+    Ok(())
+}
+
+/// Why a text is refused, where it is.
+fn refusal(alloc: Global, text: &[u8]) -> Option<ScriptError> {
+    planned(alloc, text).err()
+}
+
+#[test]
+fn an_edit_of_an_event_is_refused(rt: HostRuntime) -> Result<(), Fail> {
+    let error = refusal(rt.alloc(), CYCLE).ok_or("planned")?;
+    assert_eq!(rt; (error.line, error.cause), (9, ScriptCause::Cycle));
+    let text = b"at 5\nunroute 10.0.0.0/8\nend\nroute 0.0.0.0/0 via x\n";
+    let error = refusal(rt.alloc(), text).ok_or("planned")?;
     assert_eq!(rt;
-        master.fib().find(ADDRESS),
-        Some(RouteTo::Via(Members::one(0)))
-    );
-    assert_eq!(rt;
-        route_after(rt.alloc(), &mut master, &groups[0])?,
-        Some(RouteTo::Drop)
-    );
-    assert_eq!(rt;
-        route_after(rt.alloc(), &mut master, local)?,
-        Some(RouteTo::Local)
-    );
-    assert_eq!(rt;
-        route_after(rt.alloc(), &mut master, &groups[1])?,
-        Some(RouteTo::Via(Members::one(0)))
+        (error.line, error.cause),
+        (4, ScriptCause::UnknownAdjacency)
     );
     Ok(())
 }
 
-#[test]
-fn an_edit_of_an_event_is_refused(rt: HostRuntime) {
-    match planned(rt.alloc(), CYCLE) {
-        Ok(_) => assert!(rt; false, "planned"),
-        Err(error) => {
-            assert_eq!(rt; error.line, 9);
-            assert_eq!(rt; error.cause, ScriptCause::Cycle);
-        }
-    }
-    match planned(
-        rt.alloc(),
-        b"at 5\nunroute 10.0.0.0/8\nend\nroute 0.0.0.0/0 via x\n",
-    ) {
-        Ok(_) => assert!(rt; false, "planned"),
-        Err(error) => {
-            assert_eq!(rt; error.line, 4);
-            assert_eq!(rt; error.cause, ScriptCause::UnknownAdjacency);
-        }
-    }
+/// Why a master refuses the edits of a script, where it does.
+fn refused_by(
+    alloc: Global,
+    master: &mut Master,
+    text: &[u8],
+) -> Result<Option<ScriptError>, Fail> {
+    let script = parse_script(alloc, text)?;
+    Ok(master.apply(alloc, &script.start).err())
 }
 
 #[test]
 fn a_refused_group_changes_nothing(rt: HostRuntime) -> Result<(), Fail> {
-    let plan = planned(rt.alloc(), b"")?;
+    let alloc = rt.alloc();
+    let plan = planned(alloc, b"")?;
     assert_eq!(rt; plan.generations(), 1);
-    let edits = parse_script(
-        rt.alloc(),
-        b"node a kind pass\nroute 10.0.0.0/8 drop\nunroute 11.0.0.0/8\n",
-    )?
-    .start;
-    let mut master = master_of(rt.alloc(), &plan)?;
-    match master.apply(rt.alloc(), &edits) {
-        Ok(()) => assert!(rt; false, "made"),
-        Err(error) => {
-            assert_eq!(rt; error.line, 3);
-            assert_eq!(rt; error.cause, ScriptCause::NoRoute);
-        }
-    }
+    let mut master = master_of(alloc, &plan)?;
+    let text = b"node a kind pass\nroute 10.0.0.0/8 drop\nunroute 11.0.0.0/8\n";
+    let error = refused_by(alloc, &mut master, text)?.ok_or("made")?;
+    assert_eq!(rt; (error.line, error.cause), (3, ScriptCause::NoRoute));
     assert_eq!(rt; master.graph().nodes(), 9);
     assert_eq!(rt; master.fib().routes().len(), 0);
     Ok(())
@@ -219,10 +226,7 @@ fn a_refused_group_changes_nothing(rt: HostRuntime) -> Result<(), Fail> {
 fn generations_come_one_after_the_other(rt: HostRuntime) -> Result<(), Fail> {
     let plan = planned(rt.alloc(), FLAP)?;
     let generations = Generations::of(rt.alloc(), &plan).map_err(|_| "no memory")?;
-    assert_eq!(rt;
-        generations.master().fib().find(ADDRESS),
-        Some(RouteTo::Via(Members::one(0)))
-    );
+    assert_eq!(rt; generations.master().fib().find(ADDRESS), via_east());
     assert!(rt; plan.generations() == 5);
     let later = generations.advance().map_err(|_| "no memory")?;
     assert_eq!(rt; later.master().fib().find(ADDRESS), Some(RouteTo::Drop));

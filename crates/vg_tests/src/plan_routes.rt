@@ -24,43 +24,54 @@ fn via(numbers: &[u16]) -> Option<RouteTo> {
     Members::of(numbers).map(RouteTo::Via)
 }
 
+// Whether these are the routes of 10.1.2.3, of 2001:db8::1 and of ::.
+fn finds(
+    master: &Master,
+    ten: Option<RouteTo>,
+    site: Option<RouteTo>,
+    everywhere: Option<RouteTo>,
+) -> bool {
+    master.fib().find(0x0a01_0203) == ten
+        && master.fib6().find(ADDRESS) == site
+        && master.fib6().find(0) == everywhere
+}
+
 #[test]
 fn routes_lead_over_several_adjacencies(rt: HostRuntime) -> Result<(), Fail> {
     let alloc = rt.alloc();
     let plan = planned(alloc, BOTH)?;
     let mut generations = Generations::of(alloc, &plan).map_err(|_| "no memory")?;
-    assert_eq!(rt;
-        generations.master().fib().find(0x0a01_0203),
-        via(&[1, 1, 0])
-    );
-    assert_eq!(rt; generations.master().fib6().find(ADDRESS), via(&[0, 1]));
-    assert_eq!(rt; generations.master().fib6().find(0), None);
+    assert!(rt; finds(generations.master(), via(&[1, 1, 0]), via(&[0, 1]), None));
     assert!(rt; plan.generations() == 3);
     generations = generations.advance().map_err(|_| "no memory")?;
-    assert_eq!(rt; generations.master().fib6().find(ADDRESS), via(&[0, 1]));
-    assert_eq!(rt; generations.master().fib6().find(0), Some(RouteTo::Local));
-    generations = generations.advance().map_err(|_| "no memory")?;
-    assert_eq!(rt; generations.master().fib6().find(ADDRESS), via(&[1]));
-    assert_eq!(rt;
-        generations.master().fib().find(0x0a01_0203),
-        via(&[1, 1, 0])
+    assert!(rt;
+        finds(
+            generations.master(),
+            via(&[1, 1, 0]),
+            via(&[0, 1]),
+            Some(RouteTo::Local)
+        )
     );
+    generations = generations.advance().map_err(|_| "no memory")?;
+    assert!(rt; finds(generations.master(), via(&[1, 1, 0]), via(&[1]), via(&[1])));
     Ok(())
 }
 
 // A plan is refused on this line, for this cause.
-fn assert_refused(rt: &impl Abort, alloc: Global, text: &[u8], line: u32, cause: ScriptCause) {
-    match planned(alloc, text) {
-        Ok(_) => assert!(rt; false, "planned"),
-        Err(error) => {
-            assert_eq!(rt; error.line, line);
-            assert_eq!(rt; error.cause, cause);
-        }
-    }
+fn assert_refused(
+    rt: &impl Abort,
+    alloc: Global,
+    text: &[u8],
+    line: u32,
+    cause: ScriptCause,
+) -> Result<(), Fail> {
+    let error = planned(alloc, text).err().ok_or("planned")?;
+    assert_eq!(rt; (error.line, error.cause), (line, cause));
+    Ok(())
 }
 
 #[test]
-fn unknown_adjacencies_and_prefixes_are_refused(rt: HostRuntime) {
+fn unknown_adjacencies_and_prefixes_are_refused(rt: HostRuntime) -> Result<(), Fail> {
     let alloc = rt.alloc();
     assert_refused(
         &rt,
@@ -68,36 +79,31 @@ fn unknown_adjacencies_and_prefixes_are_refused(rt: HostRuntime) {
         b"adjacency e0 interface pg0 dst 02:00:00:00:00:10\nroute 10.0.0.0/8 via e0,e0,e1\n",
         2,
         ScriptCause::UnknownAdjacency,
-    );
+    )?;
     assert_refused(
         &rt,
         alloc,
         b"route6 ::/0 via e0\n",
         1,
         ScriptCause::UnknownAdjacency,
-    );
+    )?;
     assert_refused(
         &rt,
         alloc,
         b"route 0.0.0.0/0 local\nunroute6 ::/0\n",
         2,
         ScriptCause::NoRoute,
-    );
+    )
 }
 
 #[test]
 fn a_refused_group_changes_no_ip6_route(rt: HostRuntime) -> Result<(), Fail> {
     let alloc = rt.alloc();
     let plan = planned(alloc, b"route6 2001:db8::/32 local\n")?;
-    let edits = parse_script(alloc, b"route6 ::/0 drop\nunroute6 ::1/128\n")?.start;
+    let script = parse_script(alloc, b"route6 ::/0 drop\nunroute6 ::1/128\n")?;
     let mut master = Master::new(alloc, &plan).map_err(|_| "no memory")?;
-    match master.apply(alloc, &edits) {
-        Ok(()) => assert!(rt; false, "made"),
-        Err(error) => {
-            assert_eq!(rt; error.line, 2);
-            assert_eq!(rt; error.cause, ScriptCause::NoRoute);
-        }
-    }
+    let error = master.apply(alloc, &script.start).err().ok_or("made")?;
+    assert_eq!(rt; (error.line, error.cause), (2, ScriptCause::NoRoute));
     let site = Prefix6 {
         addr: 0x2001_0db8_0000_0000_0000_0000_0000_0000,
         len: 32,

@@ -1,7 +1,9 @@
 //! IPv6 beside IPv4: packets over the nodes of both, over folders and sinks in memory. What is saved and printed was worked out by hand.
 
-use crate::memory_runs::{FRAME, Frame, HEADER, RUN, Ran, bytes_of, run_over, run_with, savefile};
-use crate::neighbors::assert_accepted;
+use crate::memory_runs::{
+    FRAME, Frame, HEADER, RUN, Ran, WORKERS, bytes_of, run_over, run_with, savefile, words_of,
+};
+use crate::neighbors::{assert_accepted, check_of};
 use std::alloc::{AllocError, Global};
 use std::process::Abort;
 use std::sync::Wait;
@@ -417,42 +419,45 @@ fn in_turn(alloc: Global) -> Result<Vec<u8>, AllocError> {
     Ok(file)
 }
 
+/// A check accepts what so many workers save and print, in threads or by turns.
+fn assert_accepted_by_any<'a, R: Abort + Wait + Threads + Sync + AllocGlobal>(
+    rt: &R,
+    capture: &'a [u8],
+    script: &'a [u8],
+    workers: &'a str,
+    in_threads: bool,
+) -> Result<(), Fail> {
+    let words = words_of(rt.alloc(), workers, in_threads)?;
+    let files: [(&str, &[u8]); 3] = [("c", capture), ("s", script), ("u", b"00m0m00m")];
+    let Ran {
+        status,
+        printed,
+        tx,
+        ran: _,
+    } = run_with(rt, words.as_slice(), &files)?;
+    assert_eq!(rt; status, 0);
+    let tx = tx.ok_or("no savefile")?;
+    let checked = check_of(rt, capture, script, tx.as_slice(), printed.as_slice())?;
+    assert_eq!(rt; checked.printed.as_slice(), "yes\n".as_bytes());
+    assert_eq!(rt; checked.status, 0);
+    Ok(())
+}
+
 // Where a packet that is handed over meets an event depends on the turns, so the check alone says what may come of it.
 #[test]
 fn any_workers_do_what_a_check_accepts(rt: HostRuntime) -> Result<(), Fail> {
     let alloc = rt.alloc();
     let capture = in_turn(alloc)?;
     let script = format!(in alloc; "{DUAL}{CHANGING}")?;
-    let script = script.as_str().as_bytes();
-    for workers in ["1", "2", "3", "4", "5", "6", "7", "8"] {
-        for turns in ["", "00m0m00m"] {
-            let mut words = vec![in alloc; "run", "--workers", workers]?;
-            if !turns.is_empty() {
-                words.extend_from_slice(&["--turns", "u"])?;
-            }
-            words.extend_from_slice(&["c", "s", "t"])?;
-            let files: [(&str, &[u8]); 3] = [
-                ("c", capture.as_slice()),
-                ("s", script),
-                ("u", turns.as_bytes()),
-            ];
-            let Ran {
-                status,
-                printed,
-                tx,
-                ran: _,
-            } = run_with(&rt, words.as_slice(), &files)?;
-            assert_eq!(rt; status, 0);
-            let tx = tx.ok_or("no savefile")?;
-            let files: [(&str, &[u8]); 4] = [
-                ("c", capture.as_slice()),
-                ("s", script),
-                ("t", tx.as_slice()),
-                ("r", printed.as_slice()),
-            ];
-            let checked = run_with(&rt, &["check", "c", "s", "t", "r"], &files)?;
-            assert_eq!(rt; checked.printed.as_slice(), "yes\n".as_bytes());
-            assert_eq!(rt; checked.status, 0);
+    for workers in WORKERS {
+        for in_threads in [false, true] {
+            assert_accepted_by_any(
+                &rt,
+                capture.as_slice(),
+                script.as_str().as_bytes(),
+                workers,
+                in_threads,
+            )?;
         }
     }
     Ok(())

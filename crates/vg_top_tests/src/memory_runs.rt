@@ -144,3 +144,20 @@ pub(crate) fn run_over<R: Wait + Threads + Sync + AllocGlobal>(
 ) -> Result<Ran, AllocError> {
     run_with(rt, words, &[("c", capture), ("s", script)])
 }
+
+/// So many workers.
+pub(crate) const WORKERS: [&str; 8] = ["1", "2", "3", "4", "5", "6", "7", "8"];
+
+/// The words of a run on so many workers, in threads or by the turns of a file.
+pub(crate) fn words_of<'a>(
+    alloc: Global,
+    workers: &'a str,
+    in_threads: bool,
+) -> Result<Vec<&'a str>, AllocError> {
+    let mut words = vec![in alloc; "run", "--workers", workers]?;
+    if !in_threads {
+        words.extend_from_slice(&["--turns", "u"])?;
+    }
+    words.extend_from_slice(&["c", "s", "t"])?;
+    Ok(words)
+}

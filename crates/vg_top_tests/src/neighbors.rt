@@ -48,7 +48,7 @@ const OTHER_TO_NEIGHBORS: [Frame<'static>; 2] = [
 const CHECK: [&str; 5] = ["check", "c", "s", "t", "r"];
 
 /// What a check finds of what a run over a capture and a script saved and printed.
-fn check_of<'a, R: Wait + Threads + Sync + AllocGlobal>(
+pub(crate) fn check_of<'a, R: Wait + Threads + Sync + AllocGlobal>(
     rt: &R,
     capture: &'a [u8],
     script: &'a [u8],

@@ -1,6 +1,8 @@
 //! VLAN tags and cross-connects, over folders and sinks in memory. What is saved and printed was worked out by hand.
 
-use crate::memory_runs::{FRAME, Frame, HEADER, RUN, Ran, bytes_of, run_over, run_with, savefile};
+use crate::memory_runs::{
+    FRAME, Frame, HEADER, RUN, Ran, WORKERS, bytes_of, run_over, run_with, savefile, words_of,
+};
 use crate::neighbors::assert_accepted;
 use std::alloc::{AllocError, Global};
 use std::process::Abort;
@@ -364,27 +366,10 @@ fn a_changed_tag_takes_the_mark_away(rt: HostRuntime) -> Result<(), Fail> {
     Ok(())
 }
 
-/// So many workers.
-const WORKERS: [&str; 8] = ["1", "2", "3", "4", "5", "6", "7", "8"];
-
 /// A handoff by the destination between the node that takes a tag off and the one that puts one on.
 const BETWEEN: &str = "node cut kind dot1q-match-100\nnode hand kind handoff-dst\n\
     node tag kind dot1q-push-200\narc tag out interface-tx\narc hand resume tag\n\
     arc cut match hand\narc pg-input out cut\n";
-
-/// The words of a run on so many workers, in threads or by turns.
-fn words_of<'a>(
-    alloc: Global,
-    workers: &'a str,
-    in_threads: bool,
-) -> Result<Vec<&'a str>, AllocError> {
-    let mut words = vec![in alloc; "run", "--workers", workers]?;
-    if !in_threads {
-        words.extend_from_slice(&["--turns", "u"])?;
-    }
-    words.extend_from_slice(&["c", "s", "t"])?;
-    Ok(words)
-}
 
 /// Adds the record of a datagram with this tag to 10.1.2.0 or one of the next seven hosts.
 fn add(alloc: Global, file: &mut Vec<u8>, tag: &str, host: u8) -> Result<(), AllocError> {
