@@ -38,7 +38,7 @@ impl Model for Backlog {
 
 impl Backlog {
     /// A backlog that holds no frame, behind this end of a ring. Its gate is closed from `slots` held frames on, and it has room for so
-    /// many packets. No other call on it takes memory.
+    /// many packets. This call alone takes memory.
     ///
     /// # Errors
     ///

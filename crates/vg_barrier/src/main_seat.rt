@@ -137,7 +137,7 @@ impl<P: Parcel + Drop> MainSeat<P> {
 impl<P: Parcel + Drop> Asked<P> {
     ghost use Rattle.vg_barrier.specs.Answers.{CountsArrived};
 
-    /// Reads how many workers have arrived: all of them at [`Parking::All`], fewer at [`Parking::Wait`], which tells how many in
+    /// Reads how many workers have arrived: all of them at [`Parking::All`], fewer at [`Parking::Wait`], which says how many in
     /// `seen`. With `All` every worker's parcel has come to main. Each of these fits the book, and their generation is the one that
     /// main released last, or 0 where it has released none.
     pub fn poll(self, barrier: &Barrier<P>) -> Parking<P>

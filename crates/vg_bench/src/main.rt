@@ -1,6 +1,8 @@
 //! `vg_bench`: how long the packets of a savefile take through the graphs of a script, in memory.
 //!
 //! `bench/run` calls it for its tables.
+//!
+//! In which order to read: `trials`, `times`, `watch`.
 #![tactic(auto)]
 
 mod times;

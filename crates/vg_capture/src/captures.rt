@@ -231,7 +231,7 @@ pub struct Sent {
     pub bytes: Bytes,
 }
 
-/// A capture has no more than 65,536 packets, as a proof may need to be told.
+/// A capture has at most 65,536 packets: for proofs that need the fact stated.
 pub fn know_few(capture: &Capture)
     ensures { length capture.now.packets ≤ 65536 }
 {

@@ -1,4 +1,7 @@
-//! Savefiles: captures of packets in the format of pcap-savefile(5).
+//! Savefiles, in the format of pcap-savefile(5): read into packets with the first fault named, and written record by record; the time of each
+//! packet.
+//!
+//! In which order to read: `layout`, `captures`, `records`, `reading` with `errors`; then `times`, `writing` and `laws`.
 #![tactic(auto)]
 
 pub mod captures;

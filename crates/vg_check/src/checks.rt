@@ -110,7 +110,7 @@ fn verdict<K: KindSet>(
 /// what any run puts out is accepted; that some order of turns leads to the choices isn't asked. Each packet is walked once, and one generation is kept at a time.
 ///
 /// The kinds may be any. Where a node drops a packet by congestion itself, no queue was full and there is no count to name, so no lawful
-/// report tells of it.
+/// report has such a line.
 ///
 /// # Errors
 ///

@@ -1,5 +1,5 @@
-//! Tests of the replay of a report and of the checker, a module for each, over the built libraries: beside the code they would have
-//! the whole crate proved once more. It is tests alone.
+//! Tests of the replay of a report and of the checker, a module for each, over the built libraries. They stand in a crate of tests alone,
+//! since a crate that has tests is proved twice.
 #![tactic(auto)]
 
 #[cfg(test)]

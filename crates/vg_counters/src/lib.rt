@@ -4,7 +4,7 @@
 //! the counters by place, and [`merge`] puts the traces together, packet by packet and leg by leg. VLIB keeps such counters by
 //! thread too; its packet tracer notes the nodes of the first packets.
 //!
-//! Counting is one addition at one place. No call takes memory but those that make a value.
+//! Counting is one addition at one place. Memory is taken only where a value is made.
 #![tactic(auto)]
 
 pub mod counting;

@@ -10,6 +10,8 @@
 //! What calls cost: [`Worker::new`] takes all memory. A round copies a packet's bytes into a chain of buffers as it is drawn, and out of it
 //! where it is transmitted; between nodes only its index moves, and to hand a packet over moves the one pointer to its chain. A node's
 //! visits are counted once a frame, and noted packet by packet only where packets are traced.
+//!
+//! In which order to read: `inputs`, `options`, `parcels`, `links`, `workers` with `seats` and `gating`; then `turns` and `laws`.
 #![tactic(auto)]
 
 mod gating;

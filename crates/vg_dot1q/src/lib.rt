@@ -4,6 +4,8 @@
 //! stands around. What a visit of a kind makes of a packet stands in `specs/nodes/`, and its body in `nodes/`, in files of the same names.
 //! Only the outer tag counts, and only its type 0x8100. Tags come off and go on in front of the packet where it lies: no more than twelve
 //! bytes move.
+//!
+//! In which order to read: `dot1q`, `tags`, `nodes`; then `laws`.
 #![tactic(auto)]
 
 pub mod dot1q;

@@ -48,7 +48,7 @@ fn passed_on(errors: &[(Name, DropError, u64)], name: &Name, visits: u64) -> u64
     left
 }
 
-/// Whether a report tells that a node passed no packet on.
+/// Whether by a report a node passed no packet on.
 pub fn carries_nothing(report: &Option<Report>, name: &Name) -> bool
     ensures { result ≡ carries_nothing_of report.now name.now }
 {
@@ -99,7 +99,7 @@ fn put_told(out: &mut Vec<u8>, report: &Report, name: &Name) -> Result<(), Alloc
     Ok(())
 }
 
-/// Appends what a report tells of a node: its visits, and its drops by error.
+/// Appends what a report counts of a node: its visits, and its drops by error.
 pub fn put_node_counts(
     out: &mut Vec<u8>,
     report: &Option<Report>,
@@ -113,7 +113,7 @@ pub fn put_node_counts(
     }
 }
 
-/// Appends what a report tells of an interface: how many packets were transmitted on it.
+/// Appends what a report counts of an interface: how many packets were transmitted on it.
 pub fn put_interface_counts(
     out: &mut Vec<u8>,
     report: &Option<Report>,

@@ -1,4 +1,6 @@
-//! The drawing of a graph in the DOT language of Graphviz.
+//! The drawing of a generation's graph in the DOT language of Graphviz, with what a report counted.
+//!
+//! In which order to read: `drawing`, `lines` with `words`, `counts`; then `laws`.
 #![tactic(auto)]
 
 mod counts;

@@ -24,6 +24,8 @@
 //! are copied from the table, and a new prefix costs the places, or the spans, that it covers. They take their value, so nobody looks up
 //! in it meanwhile. [`Mtrie::target`] and [`Spans6::target`] only read, so the workers of one generation can share both behind a
 //! reference.
+//!
+//! In which order to read: `table`, `trie`; then `table6`, `spans`, and `laws`.
 #![tactic(auto)]
 
 pub mod laws;

@@ -3,6 +3,8 @@
 //! [`load_files`] loads the capture, the script and the turns file of a run, and [`read_files`] says what they say, or why they are
 //! refused; [`load_checked`] and [`judge`] do the same for a check. [`Refusal`] has the exit status and the line of each refusal, and
 //! [`print`] writes a whole text to a sink. [`KINDS`] are the kinds of nodes that runs and checks visit.
+//!
+//! In which order to read: `kinds`, `loading`, `reading`, `checking`, `refusals`, `printing`.
 #![tactic(auto)]
 
 mod checking;

@@ -52,7 +52,7 @@ impl Refusal<'_> {
         }
     }
 
-    /// The line that tells the user: the cause in one word, and then where.
+    /// The line that is printed for the user: the cause in one word, and then where.
     pub fn line(&self, alloc: Global) -> Result<String, AllocError>
         ensures { IfOk result (λ line. string_bytes line ≡ line_of self.now) }
     {

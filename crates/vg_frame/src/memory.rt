@@ -13,7 +13,7 @@ use vg_pool::Buffer;
 
 /// The packets that a worker has under way, each in its chain of buffers: at most [`MOST_UNDER_WAY`], each under an index.
 ///
-/// A packet, told of here as the [`Buffer`] that it lies in, keeps its index until it is lifted, and only then another one may get it.
+/// A packet, meant here as the [`Buffer`] that it lies in, keeps its index until it is lifted, and only then another one may get it.
 #[derive(Drop)]
 pub struct BufferMemory {
     buffers: Slab<Buffer>,

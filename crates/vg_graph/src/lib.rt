@@ -1,4 +1,6 @@
-//! The graph of nodes, interfaces and adjacencies that packets go through.
+//! The graph of nodes, interfaces and adjacencies that packets go through, and its edits.
+//!
+//! In which order to read: `nodes`, `addresses`, `lists`, `graphs` with `errors` and `search`, `start`.
 #![tactic(auto)]
 
 mod addresses;

@@ -57,7 +57,7 @@ pub trait Handoff<T: Counted>: Drop {
     /// that were refused. It gives no room, opens no gate, and lets no item go on that it holds.
     ///
     /// `Full` comes by the cause of [`RingTx::push`] on the end inside: this very call made one step, which loaded the head, and the
-    /// head that it found is the number accepted less the number of slots. It is no smaller than any that this end loaded or learnt
+    /// head that it found is the number accepted less the number of slots. It is at least as large as any that this end loaded or learnt
     /// before.
     fn push(&mut self, item: T) -> Result<(), Full<T>>
         requires room { T.parts item ≤ free_room self.old }

@@ -14,7 +14,7 @@ pub fn scripts_are_accepted()
     ensures handoff { MakesGenerations HANDOFF.now 5 }
 {}
 
-/// The savefile of the packets of a load has the length that the text tells.
+/// The savefile of the packets of a load has the length that the text says.
 pub fn savefiles_have_their_length()
     ensures { (seed packets : ℕ) (capture : Capture) → IsLoad seed packets capture → length (whole_savefile capture) ≡ savefile_len packets }
 {}

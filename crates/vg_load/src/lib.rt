@@ -1,4 +1,6 @@
-//! A load: packets that are made of a number, the scripts that they are sent through, and the text that tells of it.
+//! A load: packets made of a number, the scripts that they are sent through, and the text that it prints.
+//!
+//! In which order to read: `frames`, `packets`, `summaries`, `laws`.
 #![tactic(auto)]
 
 mod frames;

@@ -61,7 +61,7 @@ fn buffers_line(alloc: Global, buffers: u32) -> Result<String, AllocError>
     format!(in alloc; "buffers {buffers}\n")
 }
 
-/// The text that tells of a load: its words; the length of its savefile; how many packets are transmitted and dropped without handoffs,
+/// The text that a load prints: its words; the length of its savefile; how many packets are transmitted and dropped without handoffs,
 /// which is one of sixteen; how many came to an end with handoffs; and how many buffers were back then.
 pub fn summary(alloc: Global, load: &Load, ended: u32, buffers: u32) -> Result<String, AllocError>
     requires { load.now.packets ≤ 65536 }

@@ -3,6 +3,9 @@
 //! A [`KindSet`] visits a packet in its buffer at a node. [`dispatch_frame`] visits the packets of a whole frame at one node, and
 //! sorts their indexes by what becomes of them, as a node function of VLIB sorts its frame into next frames. No visit and no
 //! dispatch takes memory or a lock.
+//!
+//! In which order to read: `kinds`, `ip4` with `heads` and `nodes`, `sorted` with `entries`, `dispatch`; `parts` is for crates that bring
+//! kinds of their own, and `laws` has a law of sorted frames.
 #![tactic(auto)]
 
 pub mod dispatch;

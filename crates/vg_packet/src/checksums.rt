@@ -31,7 +31,7 @@ pub fn verify_header(header: &[u8]) -> bool
 /// Lowers a header's time to live by one, and writes the checksum that the changed header has (RFC
 /// 1812, section 5.3.1). `header` is as [`verify_header`] takes it, and verifies; its first byte isn't
 /// 0, and its time to live is at least 1. The checksum comes from the old one and the word that changes
-/// (RFC 1624, equation 3), so that no word but these two is read.
+/// (RFC 1624, equation 3), so that only these two words are read.
 pub fn lower_ttl(header: &mut [u8])
     requires even { length header.old % 2 ≡ 0 }
     requires least { 20 ≤ length header.old }

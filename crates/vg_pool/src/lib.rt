@@ -20,6 +20,9 @@
 //! The pool's book says where the buffers are: each of the total is in the pool's list or is one of the units out, and these are what
 //! was ever taken without having been given back. Two ledgers carry the proof, and cost nothing when it runs. Type parameters name them, `T` for
 //! the buffers ever taken and `G` for those ever given back, so a cache is of a pool where both have the same.
+//!
+//! In which order to read: `areas`, `parts`, `buffers`, `stacks` with `spares`, `caches`, `pools` with `books` and `settled`, `locked`,
+//! `laws`.
 #![tactic(auto)]
 
 mod areas;

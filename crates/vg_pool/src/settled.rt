@@ -8,8 +8,8 @@ use std::marker::Model;
 // A pool has at most so many caches.
 pub(crate) const MOST_CACHES: usize = 8;
 
-/// What the settlement of a pool with all its caches came to. Only a pool that was settled gives one, by
-/// [`Pool::end`](crate::Pool::end): no other code can make it, so the buffers that it tells of were really there.
+/// What the settlement of a pool with all its caches came to. Only [`Pool::end`](crate::Pool::end) makes one, of a pool that was
+/// settled, so the buffers that it counts were really there.
 #[derive(Debug, Drop)]
 pub struct Settled {
     len: u32,

@@ -1,4 +1,6 @@
-//! A script's blocks as processes on a timer wheel.
+//! A script's blocks as processes on a timer wheel, which give the next event.
+//!
+//! In which order to read: `states` with `copies`, `timers` with `queue`, `schedule`.
 #![tactic(auto)]
 
 mod copies;

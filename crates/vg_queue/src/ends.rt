@@ -7,7 +7,7 @@ use crate::logs::{Line, LinePass, Put, Take};
 use std::alloc::Global;
 use std::sync::{Arc, Wait};
 
-/// The push was refused, as the queue below told that it was full.
+/// The push was refused, since by the answer of the queue below it was full.
 #[derive(Debug, Drop, PartialEq, Eq)]
 pub struct Full<T> {
     /// How many items this end has had accepted since the queue was made.
@@ -44,7 +44,7 @@ impl<T: Drop> QueueTx<T> {
 
     /// Puts the item behind all that were accepted.
     ///
-    /// `Full` gives the item back. That the queue was full at one moment of the call is what the queue below tells; the contract
+    /// `Full` gives the item back. That the queue was full at one moment of the call is the answer of the queue below; the contract
     /// says only that at least as many items were put as the queue has slots, and that this item was not.
     pub fn push<R: Wait>(&mut self, rt: &R, item: T) -> Result<(), Full<T>>
         requires { length (put self.old) < 2 ^ 62 }
@@ -72,7 +72,7 @@ impl<T: Drop> QueueRx<T> {
 
     /// Takes the oldest item that was not yet taken.
     ///
-    /// That the queue was empty at one moment of the call is what the queue below tells; the contract says only that nothing was
+    /// That the queue was empty at one moment of the call is the answer of the queue below; the contract says only that nothing was
     /// taken.
     pub fn pop<R: Wait>(&mut self, rt: &R) -> Option<T>
         ensures same { IsSameRx self.old self.new }

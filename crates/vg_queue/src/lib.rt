@@ -12,8 +12,10 @@
 //! It lies over the bounded queue of `crossbeam_queue`, under the rule of `specs/Rule.antt`. A call may wait behind a thread that
 //! has stalled in a call of its own, so each takes a handle with `Wait`. Only `ring` takes memory.
 //!
-//! `Full` and `None` tell of one moment within the call, as the queue below tells it. The end makes no note of that moment, so a
+//! `Full` and `None` are true of one moment within the call, by the answer of the queue below. The end keeps no note of that moment, so a
 //! caller learns less of it than from the ring.
+//!
+//! In which order to read: `logs`, `making`, `ends`, `closing` with `rest`.
 #![tactic(auto)]
 
 mod closing;

@@ -1,5 +1,8 @@
 //! The report of a run as text: the pool's length at the end, the counts of interfaces, nodes and errors,
 //! each packet's fate, and the traces. `specs/Text` says which text, `specs/Lawful` which reports may be.
+//!
+//! In which order to read: `reports` with `lists`, `writing`; then `kinds`, `words` with `parts`, `lines`, `reading` with `errors`; then
+//! `laws`.
 #![tactic(auto)]
 
 pub mod errors;

@@ -2,6 +2,9 @@
 //!
 //! A script is lines of words. Outside blocks stand the edits that are made before the first packet; an `at` or a `process`
 //! begins a block, whose edits are made while packets go through the graph.
+//!
+//! In which order to read: `scripts` with `lists`, `statements`, `words` with `parts`, `classes` with `address6`, `reader`, `reading` with
+//! `errors`; then `writing` and `laws`.
 #![tactic(auto)]
 
 mod address6;

@@ -1,5 +1,8 @@
-//! Tests of values and tables, captures, graphs, plans and reports, a module for each crate, over the built libraries: beside the code
-//! they would have the whole crate proved once more. It is tests alone.
+//! Tests of values and tables, captures, graphs, plans and reports, a module for each crate, over the built libraries. They stand in a
+//! crate of tests alone, since a crate that has tests is proved twice.
+//!
+//! In which order to read: `model`, `capture`, `load`, `graph`, `fib`, `fib6`, `plan`, `plan_routes`, `process`, `packet`, `fates`,
+//! `report`, `draw`.
 #![tactic(auto)]
 
 #[cfg(test)]

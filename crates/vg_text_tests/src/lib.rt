@@ -1,5 +1,7 @@
 //! Tests of scripts, of the words of a call, of turns, of sentences for people and of files, a module for each crate, over the built
-//! libraries: beside the code they would have the whole crate proved once more. It is tests alone.
+//! libraries. They stand in a crate of tests alone, since a crate that has tests is proved twice.
+//!
+//! In which order to read: `words`, `outside`, `script`, `turns`, `explain`.
 #![tactic(auto)]
 
 #[cfg(test)]

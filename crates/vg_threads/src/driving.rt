@@ -69,7 +69,7 @@ fn turn_all_here<'a, K: KindSet, H: Handoff<HandFrame>, T: PoolLedger, L: Ledger
 
 /// Main's steps, with turns of the workers that are here, until main has told the workers to stop and all of them have left.
 ///
-/// Since each hold of the barrier stops all workers, main asks for it once they have told that they have drawn their packets below
+/// Since each hold of the barrier stops all workers, main asks for it once they have posted that they have drawn their packets below
 /// the limit, or after a pause that is longer the farther they had to go at the last hold. Whenever it asks or releases them, it wakes
 /// those that sleep.
 fn lead_started<'a, K: KindSet, H: Handoff<HandFrame>, T: PoolLedger, L: Ledger, R: Wait, G: Gate>(

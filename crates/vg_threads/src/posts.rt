@@ -1,4 +1,4 @@
-//! What main and the threads of the workers tell each other beside the barrier.
+//! What main and the threads of the workers post for each other beside the barrier.
 //!
 //! No decision of a run rests on it: it says only which thread gives a worker its turns, when main asks the workers to park, and when
 //! a thread that waits looks again.
@@ -18,7 +18,7 @@ const WORKERS_NAP: u64 = 100;
 /// How many microseconds main sleeps at most before it looks again.
 const MAINS_NAP: u64 = 1_000;
 
-/// What main and the thread of one worker tell each other.
+/// What main and the thread of one worker post for each other.
 #[derive(Drop)]
 pub struct Post {
     refused: AtomicBool,
@@ -57,7 +57,7 @@ impl Post {
     }
 }
 
-/// What main tells all workers, and where it sleeps.
+/// What main posts for all workers, and where it sleeps.
 #[derive(Drop)]
 struct MainsPost {
     limit: AtomicU64,
@@ -73,7 +73,7 @@ pub struct Posts {
 }
 
 impl Posts {
-    /// Whether each worker has told that it has drawn its packets below this limit.
+    /// Whether each worker has posted that it has drawn its packets below this limit.
     pub(crate) fn have_drawn(&self, limit: u64) -> bool {
         self.workers.iter().all(|post| post.has_drawn(limit))
     }

@@ -15,7 +15,7 @@ use vg_nodes::KindSet;
 use vg_outside::Gate;
 use vg_pool::PoolLedger;
 
-/// A worker with the desk at which it tells how far it is.
+/// A worker with the desk at which it posts how far it is.
 #[derive(Drop)]
 pub(crate) struct Posted<'a, K: KindSet, H: Handoff<HandFrame>, T: PoolLedger, L: Ledger> {
     pub tied: Tied<'a, K, H, T, L>,
@@ -46,7 +46,7 @@ enum After {
     Stopped,
 }
 
-/// One turn of a worker, which tells where its mark moves on, and wakes the others where it has taken a frame of one of them, or handed
+/// One turn of a worker, which posts its mark where that moves on, and wakes the others where it has taken a frame of one of them, or handed
 /// one over.
 fn turn_at<'a, K: KindSet, H: Handoff<HandFrame>, T: PoolLedger, L: Ledger, R: Wait, G: Gate>(
     tied: &mut Tied<'a, K, H, T, L>,

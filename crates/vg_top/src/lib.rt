@@ -2,6 +2,9 @@
 //!
 //! A run sends the packets of a capture through the graphs of a script, a load does so with packets of its own, and a check says whether
 //! a run may have put out a savefile and a report. Its laws are in [`laws`].
+//!
+//! In which order to read: `top`, `run`, `reporting`, `lossless`, `checking`, `load`; `dues` and `done` say what a call answers, `laws`
+//! what follows.
 #![tactic(auto)]
 
 mod checking;

@@ -19,7 +19,7 @@ use vg_outside::{Folder, Gate, Sink};
 /// Runs what the words after the program's name ask for, over a folder and a sink, and answers the exit status, and where it is 0 the
 /// end of the run. Workers run in threads, but where a turns file says their turns, and pass the gate at the beginning of each turn.
 ///
-/// 0: the run is done, its savefile is saved and its report is printed; or the load is done, and the text that tells of it is printed; or
+/// 0: the run is done, its savefile is saved and its report is printed; or the load is done, and its text is printed; or
 /// a check answers yes, and that is printed. 1: memory ran out, and nothing was saved or printed. 2 to 6 and 8: the call is refused, and
 /// one line is printed that says why. 7: the sink failed in the middle of what was to be printed; all else is as for the status that was
 /// due. 9: a check answers no, and one line is printed that says what the first fault is.

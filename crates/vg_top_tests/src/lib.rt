@@ -1,5 +1,8 @@
-//! Tests of the top call, over folders and sinks in memory: beside the code they would have the whole crate proved once more. It is
-//! tests alone.
+//! Tests of the top call, over folders and sinks in memory. They stand in a crate of tests alone, since a crate that has tests is proved
+//! twice.
+//!
+//! In which order to read: `memory_runs`, `runs`, `refusals`, `captures`, `workers`, `holds`, `walked`, `loads`, `checks`; then
+//! `neighbors`, `lengths`, `other_kinds`, `dual_stack`, `vlans`.
 #![tactic(auto)]
 
 #[cfg(test)]

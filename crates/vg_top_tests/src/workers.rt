@@ -27,7 +27,7 @@ pub(crate) const TO_1: Frame<'static> = (
     34,
 );
 
-/// The report of a run of these packets by two workers, where no node but these was visited.
+/// The report of a run of these packets by two workers, where only these nodes were visited.
 pub(crate) fn report(
     alloc: Global,
     head: [u32; 3],

@@ -1,4 +1,6 @@
 //! Tests of runs, of the workers and of their barrier: what several crates come to together. It is tests alone.
+//!
+//! In which order to read: `run_tests`, `frame_tests`, `chain_tests`, `thread_tests`, `barrier_tests`.
 #![tactic(auto)]
 
 #[cfg(test)]

@@ -1,4 +1,4 @@
-//! What one worker has under way, and what it keeps: it needs no plan, no script and no barrier.
+//! What one worker has under way, and what it keeps, without a plan, a script or a barrier.
 //!
 //! [`Work`] has the packets under way, node by node, the log of fates, the bytes sent, and counts and traces. Packets come into it out of
 //! a capture ([`Work::draw_own`]) or out of frames that other workers handed over ([`Work::take_frames`]). [`Work::dispatch_all`]
@@ -9,6 +9,8 @@
 //! What calls cost: [`Rooms::new`] takes all memory. A packet's bytes are copied into a chain of buffers as it is drawn, and out of it where
 //! it is transmitted; between nodes only its index moves, and to hand a packet over moves the one pointer to its chain. A node's visits are
 //! counted once a frame, and noted packet by packet only where packets are traced.
+//!
+//! In which order to read: `making` with `stations` and `peers`, `underway`, `taking` with `incoming`, `counting`, `sent`.
 #![tactic(auto)]
 
 pub mod counting;

@@ -1,4 +1,6 @@
 //! The words of the command line: what they ask for.
+//!
+//! In which order to read: `commands`, `reading` with `checks` and `numbers`, `check_words`; then `laws`.
 #![tactic(auto)]
 
 mod check_words;

@@ -1,5 +1,8 @@
-//! Tests of the crates that a worker is made of, a module for each, over the built libraries: beside the code they would have the
-//! whole crate proved once more. It is tests alone.
+//! Tests of the crates that a worker is made of, a module for each, over the built libraries. They stand in a crate of tests alone, since a
+//! crate that has tests is proved twice.
+//!
+//! In which order to read: `pool` with `chains`, `frame`, `fork`, `nodes`, `counters`, `steps`, `ring`, `queue`, `barrier`, `hands`,
+//! `backlog`.
 #![tactic(auto)]
 
 #[cfg(test)]

@@ -4,7 +4,7 @@
 //! [`turn_all`] each one, [`finish`] all of them until no frame is left in a queue. At the end of a run [`end_all`] takes from each
 //! worker what it has kept, [`close_all`] closes the queues, and [`gather::gather`] puts together what was kept.
 //!
-//! In which order to read: `links`, `crews`, `ends`, `closing` with `rests`, `gather`.
+//! In which order to read: `links`, `crews`, `ends`, `closing` with `rests`, `gather`; `lists` has what several of them use.
 #![tactic(auto)]
 
 mod closing;

@@ -1,4 +1,4 @@
-//! `vgd`: the packets of a savefile through a graph of nodes.
+//! `vgd`: sends the packets of a savefile through a graph of nodes.
 #![tactic(auto)]
 
 use std::io::ErrorKind;
