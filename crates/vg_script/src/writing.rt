@@ -435,6 +435,3 @@ pub fn print_script(alloc: Global, script: &Script) -> Result<Bytes, Memory>
     put_script(&mut out, script)?;
     Ok(Bytes::from_vec(out))
 }
-
-#[cfg(test)]
-mod tests;
