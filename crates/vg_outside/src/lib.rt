@@ -4,6 +4,8 @@
 //! where they are told to, `SureFolder` and `SureSink` at want of memory alone, and `RealFolder` and
 //! `RealSink` stand for the files of the system and its standard output. `OpenGate` lets all workers in,
 //! `MeetGate` lets two of them wait for each other.
+//!
+//! In which order to read: `folder`, `sink`, `gates`; then `calls`, `file_map`, `memory`, `sure`; then `real` with `saving`.
 #![tactic(auto)]
 
 pub mod calls;

@@ -20,11 +20,13 @@ use vg_model::Bytes;
 /// A save of a regular file, or of one that isn't there yet, leaves it as it was or with all of the new bytes, at every moment: they
 /// are written to a new file in the same folder, `.NAME.vgd-0` or with a higher number, which then takes the name. Where the save
 /// fails the new file is removed; where the process is killed before, it may stay. What is no regular file, as a pipe, is written in
-/// place, and a front of the bytes may be there after a failure.
+/// place, and a front of the bytes may be there after a failure. A save of the regular file to which the standard output goes fails.
 #[derive(Drop)]
 pub struct RealFolder<R> {
     rt: R,
     pub faults: u64,
+    /// The system's error of the last save that failed.
+    pub save_error: Option<io::Error>,
 }
 
 impl<R> RealFolder<R> {
@@ -32,7 +34,11 @@ impl<R> RealFolder<R> {
     pub fn new(rt: R) -> RealFolder<R>
         ensures { result.faults ≡ 0 }
     {
-        RealFolder { rt, faults: 0 }
+        RealFolder {
+            rt,
+            faults: 0,
+            save_error: None,
+        }
     }
 }
 
@@ -81,11 +87,14 @@ where
         ensures later { self.old.faults ≤ self.new.faults }
         ensures faults { self.new.faults ≡ (if is_ok result then self.old.faults else risen self.old.faults) }
     {
-        if save_file(&self.rt, name, bytes).is_err() {
-            self.faults = self.faults.saturating_add(1);
-            return Err(Failed);
+        match save_file(&self.rt, name, bytes) {
+            Ok(()) => Ok(()),
+            Err(error) => {
+                self.faults = self.faults.saturating_add(1);
+                self.save_error = Some(error);
+                Err(Failed)
+            }
         }
-        Ok(())
     }
 }
 

@@ -37,18 +37,51 @@ pub(crate) fn uninterrupted<T, F: FnMut() -> io::Result<T>>(mut call: F) -> io::
     Err(io::Error::from(ErrorKind::Interrupted))
 }
 
+/// A regular file of the system, by its device and its number there.
+#[derive(Clone, Copy, Debug, PartialEq, Eq)]
+pub(crate) struct Printed {
+    device: u64,
+    number: u64,
+}
+
+impl Printed {
+    /// Whether it is the file of these metadata.
+    fn is_of(&self, file: &Metadata) -> bool {
+        file.is_file() && file.dev() == self.device && file.ino() == self.number
+    }
+}
+
+/// The regular file to which the standard output goes; `None` where it goes to a pipe, a terminal or a device, is closed, or where the
+/// system doesn't say. An error is what the system says, except that there is no such file or that it may not be looked at.
+fn printed_file<R: Files>(rt: &R) -> io::Result<Option<Printed>> {
+    match uninterrupted(|| fs::metadata(rt, "/dev/stdout")) {
+        Ok(file) if file.is_file() => Ok(Some(Printed {
+            device: file.dev(),
+            number: file.ino(),
+        })),
+        Ok(_) => Ok(None),
+        Err(e) if e.kind() == ErrorKind::NotFound || e.kind() == ErrorKind::PermissionDenied => {
+            Ok(None)
+        }
+        Err(e) => Err(e),
+    }
+}
+
 /// Makes these the bytes of the file of this name.
 ///
 /// A regular file, and one that isn't there yet, gets them in one step, once all of them are written to a new file beside it: after
 /// an error, and where the process ends, it is as it was. Links are followed to it, and a file that is replaced hands on its
 /// permissions. What is no regular file, as a pipe or a device, is written in place; so is, at its end, a regular file that is named
-/// as an open one, as by `/dev/stdout`.
+/// as an open one, as by `/dev/fd/3`. The regular file to which the standard output goes is refused: what is printed would stand over
+/// the bytes, or would be lost with the file that they replace.
 pub(crate) fn save_file<R: Files + AllocGlobal>(rt: &R, name: &str, bytes: &[u8]) -> io::Result<()>
 where
     R::File: AsFd,
 {
+    // Asked before any file is opened, since a closed standard output leaves its number to the next file.
+    let printed = printed_file(rt)?;
     match OpenOptions::new().write(true).open(rt, name) {
-        Ok(file) => save_over(rt, name, file, bytes),
+        Ok(file) => save_over(rt, name, file, printed, bytes),
         Err(e) if e.kind() == ErrorKind::NotFound => match behind_links(rt, name)? {
             Some(path) => replace(rt, path.as_path(), None, bytes),
             None => Err(e),
@@ -62,6 +95,7 @@ fn save_over<R: Files + AllocGlobal>(
     rt: &R,
     name: &str,
     file: R::File,
+    printed: Option<Printed>,
     bytes: &[u8],
 ) -> io::Result<()>
 where
@@ -71,13 +105,16 @@ where
     if !old.is_file() {
         return write_and_close(file, bytes);
     }
+    if printed.is_some_and(|printed| printed.is_of(&old)) {
+        return Err(io::Error::other("the standard output goes to the same file"));
+    }
     match behind_links(rt, name)? {
         Some(path) => replace(rt, path.as_path(), Some(&old), bytes),
         None => write_and_close(OpenOptions::new().append(true).open(rt, name)?, bytes),
     }
 }
 
-/// Writes all of these bytes, and closes the file. The library tells no error of a close.
+/// Writes all of these bytes, and closes the file. The library gives no error of a close.
 fn write_and_close<F: Write + Drop>(mut file: F, bytes: &[u8]) -> io::Result<()> {
     file.write_all(bytes)
 }
@@ -135,7 +172,7 @@ where
         Err(e) => Err(e),
     };
     if saved.is_err() {
-        // What stood in the way of the save is the error to tell.
+        // What stood in the way of the save is the error that is answered.
         let _ = uninterrupted(|| fs::remove_file(rt, new_name.as_path()));
     }
     saved
