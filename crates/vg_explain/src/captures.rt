@@ -2,8 +2,8 @@
 
 use std::alloc::{AllocError, Global};
 
-/// How many bytes a savefile's header has.
-pub const HEADER: usize = 24;
+/// How many bytes of a capture are looked at: its header, and as many behind it as a text is known by.
+pub const LOOKED_AT: u64 = 512;
 
 /// The number of four bytes at a place, in one byte order or the other; 0 where the file is shorter.
 fn number_at(head: &[u8], place: usize, little: bool) -> u32 {
@@ -22,6 +22,30 @@ fn is_little(head: &[u8]) -> bool {
     matches!(head.first(), Some(0xd4) | Some(0x4d))
 }
 
+/// Whether a file begins as a savefile does, in either byte order and with either unit of time.
+pub fn is_savefile(head: &[u8]) -> bool {
+    matches!(
+        number_at(head, 0, false),
+        0xa1b2_c3d4 | 0xd4c3_b2a1 | 0xa1b2_3c4d | 0x4d3c_b2a1
+    )
+}
+
+/// Whether a file begins as a pcapng file does.
+pub fn is_pcapng(head: &[u8]) -> bool {
+    number_at(head, 0, false) == 0x0a0d_0d0a
+}
+
+/// Whether the first bytes of a file are those of a text: one of ASCII, and behind it none that a text hasn't.
+fn is_text(head: &[u8]) -> bool {
+    let begins = head.first().is_some_and(|byte| byte.is_ascii());
+    begins && !is_savefile(head) && head.iter().all(|byte| is_textual(*byte))
+}
+
+/// Whether a byte may stand in a text of any encoding that ASCII is a part of.
+fn is_textual(byte: u8) -> bool {
+    byte == b'\t' || byte == b'\r' || byte == b'\n' || !byte.is_ascii_control()
+}
+
 /// What a file that is no savefile may be, and what makes one of it.
 fn other_format(head: &[u8]) -> &'static str {
     match number_at(head, 0, false) {
@@ -30,7 +54,7 @@ fn other_format(head: &[u8]) -> &'static str {
         0x0422_4d18 => "it is compressed: `lz4 -d FILE NEW` unpacks it",
         number if number >> 16 == 0x1f8b => "it is compressed: `gunzip -c FILE > NEW` unpacks it",
         _ =>
-            "it begins with none of the four bytes of a savefile (pcap); `capinfos FILE` tells what it is, and `editcap -F pcap FILE NEW` converts it",
+            "it begins with none of the four bytes of a savefile (pcap); `capinfos FILE` says what it is, and `editcap -F pcap FILE NEW` converts it",
     }
 }
 
@@ -42,10 +66,16 @@ pub fn capture_fault(
     head: &[u8],
 ) -> Result<String, AllocError> {
     let little = is_little(head);
+    if is_text(head) {
+        return String::from_str(
+            alloc,
+            "it is a text: are CAPTURE and SCRIPT exchanged? CAPTURE comes first\n",
+        );
+    }
     if cause == "too-large" {
         return String::from_str(
             alloc,
-            "it has more than 16777216 bytes: `editcap -F pcap -c 10000 FILE NEW` splits it\n",
+            "it has more than 16777216 bytes: `editcap -F pcap -c 1000 FILE NEW` splits it\n",
         );
     }
     if cause == "not-pcap" {
@@ -68,8 +98,11 @@ pub fn capture_fault(
     if cause == "link-type" {
         let link = number_at(head, 20, little);
         return format!(in alloc;
-            "its link type is {link}, and 1, Ethernet, is wanted: capture on an Ethernet interface, or name the frames Ethernet by `editcap -T ether FILE NEW` where they are\n"
+            "its link type is {link}, and 1, Ethernet, is wanted: capture on an Ethernet interface, or name the frames Ethernet by `editcap -F pcap -T ether FILE NEW` where they are\n"
         );
+    }
+    if cause == "truncated" && head.is_empty() {
+        return String::from_str(alloc, "it is empty\n");
     }
     if cause == "truncated" {
         return format!(in alloc;

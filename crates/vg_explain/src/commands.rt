@@ -14,14 +14,14 @@ pub const USAGE: &str = "usage:
       --buffers N   packet buffers of the run: 256 * workers + 256 to 16384 (4096)
       --queue N     slots of the queue from each worker to each other: 1 to 256 (64)
       --burst N     packets that a worker draws in one turn at most: 1 to 256 (256)
-      --trace N     first packets of which the report tells all nodes: 0 to 256 (0)
+      --trace N     first packets whose nodes the report lists: 0 to 256 (0)
       --turns FILE  a file that says whose turn is next: `m` for main, a digit for a worker
       --hold        hold frames back where a queue is full, and drop none
   vgd load SEED PACKETS WORKERS
       Sends 1 to 65536 random packets by 1 to 8 workers. SEED is 0 to 18446744073709551615.
   vgd check [--queue N] CAPTURE SCRIPT TX REPORT
       Says whether REPORT and TX are what a run over CAPTURE and SCRIPT may put out.
-docs/FORMATS.md tells the formats, the limits and the exit statuses.
+Reports are of format 1. docs/FORMATS.md has the formats, the limits and the exit statuses; `man vgd` has them once it is installed.
 ";
 
 /// What follows an option.
@@ -183,7 +183,7 @@ fn value_fault(
                 return Ok(None);
             }
             Ok(Some(format!(in alloc;
-                "--{option} wants the name of a file that doesn't begin with `-`, and not `{value}`\n"
+                "--{option} wants the name of a file, and not `{value}`: one that begins with `-` is written with ./ in front\n"
             )?))
         }
         Follows::Nothing => Ok(Some(format!(in alloc;
@@ -205,7 +205,12 @@ fn name_fault(alloc: Global, word: &str) -> Result<Option<String>, AllocError> {
     if is_name(word) {
         return Ok(None);
     }
-    Ok(Some(format!(in alloc; "`{word}` is no option and no file's name\n")?))
+    if word.is_empty() {
+        return Ok(Some(String::from_str(alloc, "an empty word names no file\n")?));
+    }
+    Ok(Some(format!(in alloc;
+        "`{word}` is no option and no file's name: a file of this name is written ./{word}\n"
+    )?))
 }
 
 /// That a command has no option of a name.

@@ -1,11 +1,10 @@
 //! The explanation of a refusal, written to the standard error.
 
-use crate::captures::{HEADER, capture_fault};
+use crate::captures::{LOOKED_AT, capture_fault};
 use crate::commands::{USAGE, asks_for_help, file_named, words_fault};
 use crate::scripts::script_fault;
 use crate::text::{report_fault, turns_fault, verdict};
-use std::fs::OpenOptions;
-use std::io::{ErrorKind, Read};
+use std::io::Read;
 use std::rt::Files;
 use std::{fs, io, str};
 
@@ -21,6 +20,8 @@ pub struct Called<'a> {
     /// The names of its capture and its script, where the words name them.
     pub capture: Option<&'a str>,
     pub script: Option<&'a str>,
+    /// The error of the save that failed, where one did.
+    pub save_error: Option<&'a io::Error>,
 }
 
 /// The most bytes of a script that are read.
@@ -45,7 +46,7 @@ fn bytes_of<R: Files + AllocGlobal>(rt: &R, name: Option<&str>, most: u64) -> Ve
     }
 }
 
-/// Tells why a file could not be loaded: what the system says of another try.
+/// Says why a file could not be loaded: what the system says of another try.
 fn explain_load<R: Files + Eprint + AllocGlobal>(
     rt: &R,
     program: &str,
@@ -57,18 +58,15 @@ fn explain_load<R: Files + Eprint + AllocGlobal>(
     }
 }
 
-/// Tells why a file could not be saved, as far as that is seen without writing.
-fn explain_save<R: Files + Eprint + AllocGlobal>(
-    rt: &R,
-    program: &str,
-    name: &str,
-) -> io::Result<()> {
-    match OpenOptions::new().append(true).open(rt, name) {
-        Err(error) if error.kind() != ErrorKind::NotFound => {
-            eprintln!(rt; "{program}: `{name}` could not be written: {error}")
-        }
-        _ => eprintln!(rt;
-            "{program}: `{name}` could not be written: its folder has to be there, writable, and with room for the file; what was there is as it was"
+/// Says why a file could not be saved: the error of the save, where it was kept.
+fn explain_save<R: Eprint>(rt: &R, called: &Called<'_>, name: &str) -> io::Result<()> {
+    let program = called.program;
+    match called.save_error {
+        Some(error) => eprintln!(rt;
+            "{program}: `{name}` could not be written: {error}; a file that was there is as it was"
+        ),
+        None => eprintln!(rt;
+            "{program}: `{name}` could not be written; a file that was there is as it was"
         ),
     }
 }
@@ -81,19 +79,19 @@ fn parted(text: &str) -> (&str, &str) {
     }
 }
 
-/// Tells what is wrong with the words, or how the program is called.
+/// Says what is wrong with the words, or how the program is called.
 fn explain_words<R: Eprint>(rt: &R, called: &Called<'_>) -> io::Result<()> {
     let program = called.program;
     match called.fault {
         None => eprint!(rt; "{}", called.usage),
         Some(fault) => eprintln!(rt;
-            "{program}: {}\n`{program} --help` tells all words",
+            "{program}: {}\n`{program} --help` prints all words",
             fault.trim_end()
         ),
     }
 }
 
-/// Tells why the capture is refused, by the cause and the place that were printed.
+/// Says why the capture is refused, by the cause and the place that were printed.
 fn explain_capture<R: Files + Eprint + AllocGlobal>(
     rt: &R,
     called: &Called<'_>,
@@ -102,12 +100,12 @@ fn explain_capture<R: Files + Eprint + AllocGlobal>(
     let program = called.program;
     let (cause, place) = parted(said);
     let name = called.capture.unwrap_or("");
-    let head = bytes_of(rt, called.capture, HEADER as u64);
+    let head = bytes_of(rt, called.capture, LOOKED_AT);
     let sentence = capture_fault(rt.alloc(), cause, place, head.as_slice())?;
     eprint!(rt; "{program}: the capture `{name}` is refused: {sentence}")
 }
 
-/// Tells why the script is refused, by the line and the cause that were printed.
+/// Says why the script is refused, by the line and the cause that were printed.
 fn explain_script<R: Files + Eprint + AllocGlobal>(
     rt: &R,
     called: &Called<'_>,
@@ -119,10 +117,13 @@ fn explain_script<R: Files + Eprint + AllocGlobal>(
     let script = bytes_of(rt, called.script, MOST_OF_SCRIPT);
     let number = line.parse::<u32>().unwrap_or(0);
     let sentence = script_fault(rt.alloc(), number, cause, script.as_slice())?;
+    if number == 0 {
+        return eprint!(rt; "{program}: the script `{name}` is refused: {sentence}");
+    }
     eprint!(rt; "{program}: line {line} of the script `{name}` is refused: {sentence}")
 }
 
-/// Tells why the turns file is refused, by the place that was printed.
+/// Says why the turns file is refused, by the place that was printed.
 fn explain_turns<R: Eprint>(rt: &R, program: &str, place: &str) -> io::Result<()> {
     eprintln!(rt;
         "{program}: byte {place} of the turns file, counted from 0, is refused: {}",
@@ -130,7 +131,7 @@ fn explain_turns<R: Eprint>(rt: &R, program: &str, place: &str) -> io::Result<()
     )
 }
 
-/// Tells why the report is refused, by the line and the cause that were printed.
+/// Says why the report is refused, by the line and the cause that were printed.
 fn explain_report<R: Eprint>(rt: &R, program: &str, said: &str) -> io::Result<()> {
     let (line, cause) = parted(said);
     eprintln!(rt;
@@ -153,7 +154,7 @@ pub fn explain<R: Files + Eprint + AllocGlobal>(
     match first {
         "usage" => explain_words(rt, called),
         "load" => explain_load(rt, program, rest),
-        "save" => explain_save(rt, program, rest),
+        "save" => explain_save(rt, called, rest),
         "capture" => explain_capture(rt, called, rest),
         "script" => explain_script(rt, called, rest),
         "turns" => explain_turns(rt, program, rest),
@@ -163,12 +164,21 @@ pub fn explain<R: Files + Eprint + AllocGlobal>(
     }
 }
 
-/// Writes to the standard error why a call of `vgd` ended with a status other than 0.
-pub fn explain_vgd<R: Files + Eprint + AllocGlobal>(
+/// Writes to the standard error that a word of a call isn't UTF-8.
+pub fn explain_not_utf8<R: Eprint>(rt: &R, program: &str) -> io::Result<()> {
+    eprintln!(rt;
+        "{program}: a word is not UTF-8: rename the file of this name, or call it by a link whose name is ASCII\n`{program} --help` prints all words"
+    )
+}
+
+/// Writes to the standard error why a call of `vgd` ended with a status other than 0: by the line that it printed, and the error of the
+/// save that failed, where one did.
+pub fn explain_vgd<'a, R: Files + Eprint + AllocGlobal>(
     rt: &R,
-    words: &[&str],
+    words: &[&'a str],
     status: u8,
     printed: &[u8],
+    save_error: Option<&'a io::Error>,
 ) -> io::Result<()> {
     if status == 1 {
         return eprintln!(rt; "vgd: memory ran out; nothing was saved");
@@ -190,6 +200,7 @@ pub fn explain_vgd<R: Files + Eprint + AllocGlobal>(
             fault,
             capture: file_named(words, 0),
             script: file_named(words, 1),
+            save_error,
         },
         printed,
     )

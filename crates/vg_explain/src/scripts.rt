@@ -1,6 +1,8 @@
 //! What is wrong with a script, and its line with a mark under the word that is refused.
 
+use crate::captures::{is_pcapng, is_savefile};
 use crate::marks::{Place, bytes_at, line_of, refused_at, words_of};
+use crate::nodes::{Missing, missing_node};
 use crate::statements::is_route;
 use std::alloc::{AllocError, Global};
 use std::fmt::Write;
@@ -77,8 +79,6 @@ fn sentence(cause: &str, statement: &[u8], word: &[u8]) -> &'static str {
         range_of(statement)
     } else if cause == "too-large" {
         "it has more than 262144 bytes"
-    } else if cause == "bytes" {
-        "this byte may stand in comments alone: outside of them a script has visible ASCII, spaces and tabs"
     } else if cause == "name" {
         name_sentence(statement)
     } else if cause == "mac" {
@@ -86,7 +86,7 @@ fn sentence(cause: &str, statement: &[u8], word: &[u8]) -> &'static str {
     } else if cause == "prefix" {
         prefix_sentence(statement)
     } else if cause == "block" {
-        "`at` and `process` begin a block, which `end` closes before another begins and before the script ends; `then` stands in a process alone"
+        "`at` and `process` begin a block, which `end` closes before another begins and before the script ends; `then` stands only in a process"
     } else if cause == "too-many-generations" {
         "all runs of all blocks together are 999 at most"
     } else {
@@ -94,12 +94,52 @@ fn sentence(cause: &str, statement: &[u8], word: &[u8]) -> &'static str {
     }
 }
 
+/// The sentence for a file that is no script at all, by its first bytes.
+fn other_file(text: &[u8]) -> Option<&'static str> {
+    if is_savefile(text) {
+        Some(
+            "it is a savefile, and a script is wanted: are CAPTURE and SCRIPT exchanged? SCRIPT comes second",
+        )
+    } else if is_pcapng(text) {
+        Some(
+            "it is a pcapng file, and a script is wanted: are CAPTURE and SCRIPT exchanged? SCRIPT comes second",
+        )
+    } else if text.starts_with(&[0xff, 0xfe]) || text.starts_with(&[0xfe, 0xff]) {
+        Some("it is UTF-16: save it as ASCII")
+    } else if text.starts_with(&[0xef, 0xbb, 0xbf]) {
+        Some("it begins with a byte order mark (BOM): save it as ASCII, or as UTF-8 without one")
+    } else {
+        None
+    }
+}
+
+/// The sentence for a byte that no script has, by the bytes of its line from that one on.
+fn byte_sentence(line: &[u8]) -> &'static str {
+    match line {
+        [0, ..] => "a zero byte (NUL) stands here: the file may be UTF-16, or no text at all",
+        [0xc2, 0xa0, ..] => "a no-break space stands here: write a plain space",
+        _ => {
+            "only a comment may have this byte: elsewhere a script has visible ASCII, spaces and tabs"
+        }
+    }
+}
+
+/// The sentence for an arc of which a node isn't there.
+fn missing_sentence(missing: Missing) -> &'static str {
+    match missing {
+        Missing::Node | Missing::Target => {
+            "no node has this name here: a node is made above its first use"
+        }
+        Missing::Either => {
+            "no node has this name here, or none has the target's: a node is made above its first use"
+        }
+    }
+}
+
 /// The sentence for an edit that can't be made, by the word that is marked.
 fn edit_sentence(cause: &str, word: &[u8]) -> &'static str {
     if cause == "double-name" {
         "a node has this name already"
-    } else if cause == "unknown-node" {
-        "no node has this name here, or none has the target's: a node is made above its first use"
     } else if cause == "unknown-slot" {
         "the kind of this node has no such slot: docs/FORMATS.md lists the slots of the kinds"
     } else if cause == "bad-target" {
@@ -162,6 +202,34 @@ fn push_mark(out: &mut String, line: &[u8], word: Place) -> Result<(), AllocErro
     out.push('\n')
 }
 
+/// The sentence for a cause, by the script, the line, and what is marked in it.
+fn sentence_of(
+    cause: &str,
+    statement: &[u8],
+    text: &[u8],
+    line: &[u8],
+    refused: Place,
+) -> &'static str {
+    let is_bytes = cause == "bytes";
+    if is_bytes || cause == "too-large" {
+        if let Some(other) = other_file(text) {
+            return other;
+        }
+    }
+    if is_bytes {
+        return byte_sentence(line.get(refused.begin..).unwrap_or(&[]));
+    }
+    sentence(cause, statement, bytes_at(line, refused))
+}
+
+/// The word of an arc that names the node which isn't there.
+fn node_place(words: &[Place], missing: Missing) -> Option<Place> {
+    match missing {
+        Missing::Node | Missing::Either => words.get(1).copied(),
+        Missing::Target => words.get(3).copied(),
+    }
+}
+
 /// The sentence for a script that is refused, by the line and the cause that were printed and the text of the script, with the line and
 /// a mark under the word that is refused.
 pub fn script_fault(
@@ -176,12 +244,16 @@ pub fn script_fault(
         Some(first) => bytes_at(line, *first),
         None => &[],
     };
-    let refused = refused_at(line, words.as_slice(), cause);
+    let mut refused = refused_at(line, words.as_slice(), cause);
     let mut out = String::new(alloc);
     if cause == "kind" {
         push_kinds(&mut out)?;
+    } else if cause == "unknown-node" {
+        let missing = missing_node(alloc, text, number)?;
+        refused = node_place(words.as_slice(), missing).unwrap_or(refused);
+        out.push_str(missing_sentence(missing))?;
     } else {
-        out.push_str(sentence(cause, statement, bytes_at(line, refused)))?;
+        out.push_str(sentence_of(cause, statement, text, line, refused))?;
     }
     out.push('\n')?;
     if number > 0 {

@@ -21,7 +21,7 @@ pub fn turns_fault() -> &'static str {
 /// The sentence for a report or a savefile that a check says no to, by what was printed behind `no`.
 pub fn verdict(said: &str) -> &'static str {
     if said.starts_with("report") {
-        "the report is no text of a run's report: the line and the cause are told"
+        "the report is no text of a run's report: its first faulty line and the cause are printed"
     } else if said.starts_with("head") {
         "the first lines of the report don't fit the capture, the script or the options"
     } else if said.starts_with("choices") {

@@ -1,9 +1,12 @@
+//! Sentences for people: what is said of words, scripts, captures, reports and turns.
+
+mod arcs;
+mod files;
+
 use std::alloc::Global;
 use std::process::Abort;
 use std::test::Fail;
-use vg_explain::{
-    capture_fault, file_named, report_fault, script_fault, turns_fault, turns_named, words_fault,
-};
+use vg_explain::{file_named, script_fault, turns_named, words_fault};
 use vg_model::Kind;
 use vg_model::kinds::{CONNECT_TEXT, MATCH_TEXT, PUSH_TEXT, REWRITE_TEXT};
 
@@ -29,6 +32,27 @@ fn a_word_is_named_with_what_is_wanted(rt: HostRuntime) -> Result<(), Fail> {
     );
     let text = words_fault(alloc, &["go"])?;
     assert_eq!(rt; text.as_str(), "`go` is no command\n");
+    Ok(())
+}
+
+#[test]
+fn a_name_that_begins_as_an_option_is_written_another_way(rt: HostRuntime) -> Result<(), Fail> {
+    let alloc = rt.alloc();
+    for (word, sentence) in [
+        (
+            "-x",
+            "`-x` is no option and no file's name: a file of this name is written ./-x\n",
+        ),
+        ("", "an empty word names no file\n"),
+    ] {
+        let text = words_fault(alloc, &["run", word, "s", "t"])?;
+        assert_eq!(rt; text.as_str(), sentence);
+    }
+    let text = words_fault(alloc, &["run", "--turns=-u", "c", "s", "t"])?;
+    assert_eq!(rt;
+        text.as_str(),
+        "--turns wants the name of a file, and not `-u`: one that begins with `-` is written with ./ in front\n"
+    );
     Ok(())
 }
 
@@ -197,50 +221,22 @@ fn routes_of_either_width_are_told_of(rt: HostRuntime) -> Result<(), Fail> {
 }
 
 #[test]
-fn all_kinds_are_told_of(rt: HostRuntime) -> Result<(), Fail> {
-    let alloc = rt.alloc();
-    let kinds =
-        "the kinds are handoff-flow, handoff-src, handoff-dst, ethernet-input, ip4-input, ip4-lookup, ip4-rewrite, interface-output, interface-tx, pass, \
-        ethernet-dual, ip6-input, ip6-lookup, ip6-rewrite, dot1q-match-N, dot1q-push-N and dot1q-rewrite-N with a VLAN id N from 1 to 4094, and xconnect-N with the \
-        number N of an interface from 0 to 15";
-    assert_told(
-        &rt,
-        alloc,
-        "kind",
-        "node a kind dot1q-push-0",
-        kinds,
-        "            ^^^^^^^^^^^^",
-    )?;
+fn all_kinds_are_named(rt: HostRuntime) -> Result<(), Fail> {
+    let said = script_fault(rt.alloc(), 1, "kind", b"node a kind dot1q-push-0\n")?;
+    assert!(rt;
+        said.as_str()
+            .starts_with("the kinds are handoff-flow, handoff-src, ")
+    );
     for kind in &Kind::PLAIN {
-        assert!(rt; kinds.contains(kind.name().text));
+        assert!(rt; said.contains(kind.name().text));
     }
     for text in [MATCH_TEXT, PUSH_TEXT, REWRITE_TEXT, CONNECT_TEXT] {
-        assert!(rt; kinds.contains(text));
+        assert!(rt; said.contains(text));
     }
-    Ok(())
-}
-
-#[test]
-fn a_capture_tells_what_was_found(rt: HostRuntime) -> Result<(), Fail> {
-    let alloc = rt.alloc();
-    let mut head = [0u8; 24];
-    head[0] = 0xd4;
-    head[20] = 113;
-    let text = capture_fault(alloc, "link-type", "20", &head)?;
     assert!(rt;
-        text.as_str()
-            .starts_with("its link type is 113, and 1, Ethernet, is wanted")
-    );
-    head[0] = 0x0a;
-    head[1] = 0x0d;
-    head[2] = 0x0d;
-    head[3] = 0x0a;
-    let text = capture_fault(alloc, "not-pcap", "0", &head)?;
-    assert!(rt; text.as_str().starts_with("it is a pcapng file"));
-    assert!(rt;
-        !report_fault("form").is_empty()
-            && !turns_fault().is_empty()
-            && !vg_explain::verdict("tx").is_empty()
+        said.as_str().ends_with(
+            " with the number N of an interface from 0 to 15\n  node a kind dot1q-push-0\n              ^^^^^^^^^^^^\n"
+        )
     );
     Ok(())
 }

@@ -5,7 +5,7 @@ use std::io::ErrorKind;
 use std::process::ExitCode;
 use std::rt::Env;
 use std::{env, io};
-use vg_explain::{Keeping, explain_vgd};
+use vg_explain::{Keeping, explain_not_utf8, explain_vgd};
 use vg_outside::{OpenGate, RealFolder, RealSink};
 use vg_top::vgd_run;
 
@@ -21,10 +21,10 @@ fn program_words<R: Env + AllocGlobal>(rt: &R) -> io::Result<Vec<String>> {
 /// Words that aren't UTF-8 are as faulty as words that ask for nothing.
 fn main(rt: HostRuntime) -> ExitCode {
     let alloc = rt.alloc();
-    let words = match program_words(&rt) {
-        Ok(words) => words,
+    let (words, are_utf8) = match program_words(&rt) {
+        Ok(words) => (words, true),
         Err(e) if e.kind() == ErrorKind::OutOfMemory => return ExitCode::from(1),
-        Err(_) => Vec::new(alloc),
+        Err(_) => (Vec::new(alloc), false),
     };
     let Ok(words) = words
         .iter()
@@ -45,7 +45,17 @@ fn main(rt: HostRuntime) -> ExitCode {
     );
     if done.status != 0 {
         // An explanation that can't be written changes nothing.
-        let _ = explain_vgd(&rt, words.as_slice(), done.status, out.kept());
+        let _ = if are_utf8 {
+            explain_vgd(
+                &rt,
+                words.as_slice(),
+                done.status,
+                out.kept(),
+                folder.save_error.as_ref(),
+            )
+        } else {
+            explain_not_utf8(&rt, "vgd")
+        };
     }
     ExitCode::from(done.status)
 }

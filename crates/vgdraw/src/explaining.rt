@@ -1,4 +1,4 @@
-//! What is told on the standard error where nothing was drawn.
+//! What is written to the standard error where nothing was drawn.
 
 use crate::words::asked;
 use std::io;
@@ -10,7 +10,7 @@ const USAGE: &str = "usage:
   vgdraw [--all | --generation N] SCRIPT [REPORT]
       Prints the graph of SCRIPT in the DOT language: generation 0, the one of the number N, or all, and with the REPORT of a run what it
       counted. `vgdraw SCRIPT | dot -Tsvg >FILE` makes a picture of it.
-docs/FORMATS.md tells the formats, the limits and the exit statuses.
+Reports are of format 1. docs/FORMATS.md has the formats, the limits and the exit statuses; `man vgdraw` has them once it is installed.
 ";
 
 /// What is wrong with words that ask for no drawing that there is.
@@ -49,6 +49,7 @@ pub fn explain_drawing<R: Files + Eprint + AllocGlobal>(
             fault,
             capture: None,
             script: asked(words).map(|ask| ask.script),
+            save_error: None,
         },
         printed,
     )

@@ -1,4 +1,6 @@
 //! `vgdraw`: the graph of a script as a picture in the DOT language of Graphviz.
+//!
+//! In which order to read: `top`, `words`, `reading`, `drawings`, `refusals`, `printing`; `explaining` by itself.
 #![tactic(auto)]
 
 pub mod drawings;
@@ -17,7 +19,7 @@ use std::process::ExitCode;
 use std::rt::Env;
 use std::{env, io};
 use top::draw_run;
-use vg_explain::Keeping;
+use vg_explain::{Keeping, explain_not_utf8};
 use vg_outside::{RealFolder, RealSink};
 
 /// The words after the program's name.
@@ -32,10 +34,10 @@ fn program_words<R: Env + AllocGlobal>(rt: &R) -> io::Result<Vec<String>> {
 /// Words that aren't UTF-8 are as faulty as words that ask for nothing.
 fn main(rt: HostRuntime) -> ExitCode {
     let alloc = rt.alloc();
-    let words = match program_words(&rt) {
-        Ok(words) => words,
+    let (words, are_utf8) = match program_words(&rt) {
+        Ok(words) => (words, true),
         Err(e) if e.kind() == ErrorKind::OutOfMemory => return ExitCode::from(1),
-        Err(_) => Vec::new(alloc),
+        Err(_) => (Vec::new(alloc), false),
     };
     let Ok(words) = words
         .iter()
@@ -49,7 +51,11 @@ fn main(rt: HostRuntime) -> ExitCode {
     let status = draw_run(alloc, words.as_slice(), &mut folder, &mut out);
     if status != 0 {
         // An explanation that can't be written changes nothing.
-        let _ = explain_drawing(&rt, words.as_slice(), status, out.kept());
+        let _ = if are_utf8 {
+            explain_drawing(&rt, words.as_slice(), status, out.kept())
+        } else {
+            explain_not_utf8(&rt, "vgdraw")
+        };
     }
     ExitCode::from(status)
 }

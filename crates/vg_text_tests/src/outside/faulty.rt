@@ -42,6 +42,8 @@ impl<'a> Fault<'a> {
 pub struct FaultyFiles<'a, R> {
     pub rt: R,
     pub fault: Fault<'a>,
+    /// The file to which the standard output is said to go.
+    pub printed: &'static str,
 }
 
 /// An open file of such a runtime.
@@ -79,6 +81,9 @@ impl<'a, R: Files<File = File>> Files for FaultyFiles<'a, R> {
 
     fn metadata(&self, path: &str) -> io::Result<Metadata> {
         self.fault.meet()?;
+        if path == "/dev/stdout" {
+            return self.rt.metadata(self.printed);
+        }
         self.rt.metadata(path)
     }
 

@@ -105,7 +105,11 @@ fn save_with_fault<R: Files<File = File> + AllocGlobal + Drop>(
         failing,
         kind,
     };
-    let mut folder = RealFolder::new(FaultyFiles { rt, fault });
+    let mut folder = RealFolder::new(FaultyFiles {
+        rt,
+        fault,
+        printed: "/dev/null",
+    });
     let saved = save(&mut folder, before.name(), NEW.as_bytes());
     (calls.get() > failing, saved, folder.faults)
 }
@@ -223,4 +227,55 @@ fn an_open_file_is_written_at_its_end(rt: HostRuntime) -> Result<(), Fail> {
     );
     fs::remove_file(&rt, name)?;
     Ok(())
+}
+
+// Saves a file while the standard output is said to go to another, or to the same: the error that was kept, and what the file holds.
+fn save_printed<R: Files<File = File> + AllocGlobal + Copy + Drop>(
+    rt: R,
+    name: &str,
+    printed: &'static str,
+) -> io::Result<(Option<ErrorKind>, String)> {
+    fs::write(&rt, FILE, OLD)?;
+    let calls = Cell::new(0);
+    let fault = Fault {
+        calls: &calls,
+        failing: MOST_CALLS,
+        kind: ErrorKind::Other,
+    };
+    let mut folder = RealFolder::new(FaultyFiles { rt, fault, printed });
+    let saved = save(&mut folder, name, NEW.as_bytes());
+    let kept = folder.save_error.as_ref().map(|error| error.kind());
+    if saved.is_ok() != kept.is_none() {
+        return Err(io::Error::from(ErrorKind::InvalidData));
+    }
+    Ok((kept, fs::read_to_string(&rt, FILE)?))
+}
+
+#[test]
+fn the_file_of_the_standard_output_is_not_saved(rt: HostRuntime) -> Result<(), Fail> {
+    fs::create_dir(&rt, FOLDER)?;
+    symlink(&rt, "tx", LINK)?;
+    for name in [FILE, LINK] {
+        let (kept, bytes) = save_printed(rt, name, FILE)?;
+        assert_eq!(rt; kept, Some(ErrorKind::Other));
+        assert_eq!(rt; bytes.as_str(), OLD);
+    }
+    for printed in ["vg_outside_faults.tmp/none", "/dev/null", FOLDER] {
+        let (kept, bytes) = save_printed(rt, FILE, printed)?;
+        assert_eq!(rt; kept, None, "{printed}");
+        assert_eq!(rt; bytes.as_str(), NEW);
+    }
+    fs::remove_dir_all(&rt, FOLDER)?;
+    Ok(())
+}
+
+#[test]
+fn a_failed_save_keeps_its_error(rt: HostRuntime) {
+    let mut folder = RealFolder::new(&rt);
+    assert_eq!(rt;
+        save(&mut folder, "vg_outside_no_folder/t", b""),
+        Err(Failed)
+    );
+    let kept = folder.save_error.as_ref().map(|error| error.kind());
+    assert_eq!(rt; kept, Some(ErrorKind::NotFound));
 }
