@@ -18,15 +18,20 @@ pub struct Dot1qKinds<K: KindSet>(pub K);
 impl<K: KindSet> KindSet for Dot1qKinds<K> {
     ghost meaning = { dot1q_visit K.meaning };
 
+    #[inline]
+    fn visit(&self, fork: &Fork, node: u16, buffer: &mut Buffer) -> Step {
+        self.visit_at(fork.kind(node), fork, node, buffer)
+    }
+
     // One call for each packet and node.
     #[inline(always)]
-    fn visit(&self, fork: &Fork, node: u16, buffer: &mut Buffer) -> Step {
-        match fork.kind(node) {
+    fn visit_at(&self, kind: Kind, fork: &Fork, node: u16, buffer: &mut Buffer) -> Step {
+        match kind {
             Kind::Dot1qMatch(id) => dot1q_match(id, buffer),
             Kind::Dot1qPush(id) => dot1q_push(id, buffer),
             Kind::Dot1qRewrite(id) => dot1q_rewrite(id, buffer),
             Kind::CrossConnect(interface) => cross_connect(interface, fork, buffer),
-            _ => self.0.visit(fork, node, buffer),
+            _ => self.0.visit_at(kind, fork, node, buffer),
         }
     }
 

@@ -9,6 +9,7 @@ use crate::nodes::ip6_rewrite::ip6_rewrite;
 use vg_fork::Fork;
 use vg_model::{Kind, Step};
 use vg_nodes::KindSet;
+use vg_nodes::parts::know_interfaces;
 use vg_pool::Buffer;
 
 /// The IPv6 kinds, and the node that parts IPv4 from IPv6. A node of any other kind is visited by the set in it.
@@ -18,15 +19,21 @@ pub struct Ip6Kinds<K: KindSet>(pub K);
 impl<K: KindSet> KindSet for Ip6Kinds<K> {
     ghost meaning = { ip6_visit K.meaning };
 
+    #[inline]
+    fn visit(&self, fork: &Fork, node: u16, buffer: &mut Buffer) -> Step {
+        self.visit_at(fork.kind(node), fork, node, buffer)
+    }
+
     // One call for each packet and node.
     #[inline(always)]
-    fn visit(&self, fork: &Fork, node: u16, buffer: &mut Buffer) -> Step {
-        match fork.kind(node) {
+    fn visit_at(&self, kind: Kind, fork: &Fork, node: u16, buffer: &mut Buffer) -> Step {
+        know_interfaces(fork);
+        match kind {
             Kind::EthernetDual => ethernet_dual(fork, buffer),
             Kind::Ip6Input => ip6_input(buffer),
             Kind::Ip6Lookup => ip6_lookup(fork, buffer),
             Kind::Ip6Rewrite => ip6_rewrite(fork, buffer),
-            _ => self.0.visit(fork, node, buffer),
+            _ => self.0.visit_at(kind, fork, node, buffer),
         }
     }
 

@@ -30,9 +30,10 @@ pub fn dispatch_frame<K: KindSet>(
     ensures sorted { IsSortedBy (K.meaning fork.now.graph node) memory.old frame out.new }
     ensures visited { IsVisitedBy (K.meaning fork.now.graph node) frame memory.old memory.new }
 {
+    let kind = fork.kind(node);
     let indexes = frame.as_slice();
     for index in indexes {
-        let step = kinds.visit(fork, node, memory.get_mut(*index));
+        let step = kinds.visit_at(kind, fork, node, memory.get_mut(*index));
         out.put(*index, step);
     }
 }

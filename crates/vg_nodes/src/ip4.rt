@@ -5,7 +5,7 @@ ghost use Rattle.vg_model.proofs.KindLaws.{ip4_laws};
 use crate::heads::hash_of;
 use crate::kinds::KindSet;
 use crate::nodes::ethernet_input::ethernet_input;
-use crate::nodes::interfaces::{interface_output, transmit_interface};
+use crate::nodes::interfaces::{interface_output, know_interfaces, transmit_interface};
 use crate::nodes::ip4_input::ip4_input;
 use crate::nodes::ip4_lookup::ip4_lookup;
 use crate::nodes::ip4_rewrite::ip4_rewrite;
@@ -21,10 +21,16 @@ pub struct Ip4Kinds;
 impl KindSet for Ip4Kinds {
     ghost meaning = { ip4_visit };
 
+    #[inline]
+    fn visit(&self, fork: &Fork, node: u16, buffer: &mut Buffer) -> Step {
+        self.visit_at(fork.kind(node), fork, node, buffer)
+    }
+
     // One call for each packet and node.
     #[inline(always)]
-    fn visit(&self, fork: &Fork, node: u16, buffer: &mut Buffer) -> Step {
-        match fork.kind(node) {
+    fn visit_at(&self, kind: Kind, fork: &Fork, _node: u16, buffer: &mut Buffer) -> Step {
+        know_interfaces(fork);
+        match kind {
             Kind::EthernetInput => ethernet_input(fork, buffer),
             Kind::Ip4Input => ip4_input(buffer),
             Kind::Ip4Lookup => ip4_lookup(fork, buffer),

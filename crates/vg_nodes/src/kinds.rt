@@ -1,11 +1,11 @@
 //! What nodes do with packets.
-ghost use Rattle.std.specs.Prelude.{◌≡◌};
+ghost use Rattle.std.specs.Prelude.{◌≡◌, Some};
 ghost use Rattle.vg_model.specs.Graph.{kind_at};
 ghost use Rattle.vg_model.specs.Valid.{IsTarget, IsKindSet};
 ghost use Rattle.vg_model.specs.Visit.{Visit};
 
 use vg_fork::Fork;
-use vg_model::Step;
+use vg_model::{Kind, Step};
 use vg_pool::Buffer;
 
 /// What the nodes of each kind do. It has one meaning, which keeps the laws of visits: a slot over which a packet goes on is one of
@@ -22,6 +22,20 @@ pub trait KindSet: Copy {
         ensures visited { (result, buffer.new.packet) ≡ meaning fork.now.graph node buffer.old.packet }
         ensures legs { buffer.new.legs ≡ buffer.old.legs }
         ensures chain { buffer.new.pieces ≡ buffer.old.pieces };
+
+    /// The same, at a node whose kind the caller has looked up. A set that visits by the kind alone gives it a body of its own, so that the
+    /// packets of a frame share one look-up.
+    #[inline]
+    fn visit_at(&self, kind: Kind, fork: &Fork, node: u16, buffer: &mut Buffer) -> Step
+        requires kind { kind_at fork.now.graph node ≡ Some kind }
+        requires target { IsTarget (kind_at fork.now.graph node) }
+        ensures visited { (result, buffer.new.packet) ≡ meaning fork.now.graph node buffer.old.packet }
+        ensures legs { buffer.new.legs ≡ buffer.old.legs }
+        ensures chain { buffer.new.pieces ≡ buffer.old.pieces }
+    {
+        let _ = kind;
+        self.visit(fork, node, buffer)
+    }
 
     /// The laws of visits.
     ghost lawful: { IsKindSet meaning };

@@ -10,6 +10,14 @@ use vg_pool::Buffer;
 /// The interface that packets come in on, and leave on where none is chosen.
 pub const FIRST_INTERFACE: u16 = 0;
 
+/// Nothing happens. A fork has at least one interface.
+#[inline]
+pub fn know_interfaces(fork: &Fork)
+    ensures { 1 ≤ length fork.now.graph.interfaces }
+{
+    let _ = fork.interfaces();
+}
+
 // The interface that the packet is transmitted on: its own, where the graph has it, or else the first.
 pub(crate) fn transmit_interface(fork: &Fork, buffer: &Buffer) -> u16
     requires { 1 ≤ length fork.now.graph.interfaces }

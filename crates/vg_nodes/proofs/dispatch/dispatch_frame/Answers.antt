@@ -19,9 +19,9 @@ loop-index-preserved g c =
     let split : drop k frame ≡ get_or frame k 0 ∷ drop (suc k) frame = drop-cons frame k 0 c.loop-index-test.true in
     let before : IsUnderway visit old frame now (get_or frame k 0 ∷ drop (suc k) frame) c.loop-index.out =
     subst (λ (rest : List ℕ). IsUnderway visit old frame now rest c.loop-index.out) split c.loop-index.invariant in
-    let after : IsUnderway visit old frame (slice_set now (get_or frame k 0) (Some c.visit-step.new.buffer)) (drop (suc k) frame) (put (get_or frame k 0) c.visit-step.result c.loop-index.out) =
-    onward visit old frame now (get_or frame k 0) (drop (suc k) frame) c.loop-index.out c.get_mut.result.now c.visit-step.new.buffer c.visit-step.result
-    before c.get_mut.ensures.buffer c.visit-step.ensures.visited c.visit-step.ensures.legs c.visit-step.ensures.chain in
+    let after : IsUnderway visit old frame (slice_set now (get_or frame k 0) (Some c.visit_at-step.new.buffer)) (drop (suc k) frame) (put (get_or frame k 0) c.visit_at-step.result c.loop-index.out) =
+    onward visit old frame now (get_or frame k 0) (drop (suc k) frame) c.loop-index.out c.get_mut.result.now c.visit_at-step.new.buffer c.visit_at-step.result
+    before c.get_mut.ensures.buffer c.visit_at-step.ensures.visited c.visit_at-step.ensures.legs c.visit_at-step.ensures.chain in
     rw (add-one, c.put.ensures) after
 
 pub returns-clause-visited : goal.returns-clause-visited
