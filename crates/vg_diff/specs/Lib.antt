@@ -1,0 +1,6 @@
+pub mod Lines
+pub mod Orders
+pub mod Run
+pub mod Texts
+pub mod Refusals
+pub mod Dues

@@ -1,0 +1,60 @@
+-- Which packets came in another order than that of their flow.
+use Rattle.std.specs.Prelude.{◌≡◌, ℕ, suc, Bool, ◌&&◌, ◌==◌, nat_lt, bytes_eq, List, [], ◌∷◌, map, if◌then◌else◌}
+use Rattle.std.specs.Borrow.{Bor}
+use Rattle.std.specs.Cmp.Lexicographic.{slice_cmp}
+use Rattle.std.specs.Ordering.{nat_cmp, ordering_then}
+use Rattle.std.specs.declared.cmp.Ordering.{Ordering}
+use Rattle.std.specs.List.Sorted.{IsPermutation, IsSorted}
+use Rattle.vg_match.specs.declared.keys.Likeness.TheVariants.{Flow}
+use Rattle.vg_match.specs.Keys.{joined, parts_of}
+use Rattle.vg_match.specs.Frames.{layout_of}
+use Rattle.vg_diff.specs.declared.orders.Turn.{Turn}
+use Rattle.vg_diff.specs.Lines.{frame_at, file_of}
+
+-- a packet that came: the savefile that it stands in, its flow, and its numbers among those that came and those that were wanted
+pub record Coming : Type 0 where
+  pub file : ℕ
+  pub flow : List ℕ
+  pub got : ℕ
+  pub wanted : ℕ
+
+-- what the frames of a flow have in common: addresses, protocol and ports
+abbrev pub flow_of : List ℕ → List ℕ
+flow_of frame = joined (parts_of Flow (layout_of frame)) frame
+
+-- the packet of a pair
+abbrev pub coming_of : (frames : List (Bor (List ℕ))) → (starts : List ℕ) → ℕ × ℕ → Coming
+coming_of frames starts pair = record { file = file_of starts pair.1; flow = flow_of (frame_at frames pair.0); got = pair.1; wanted = pair.0 }
+
+-- the same, as the code has it
+abbrev pub coming : Turn → Coming
+coming turn = record { file = turn.file; flow = turn.flow.items; got = turn.got; wanted = turn.wanted }
+
+-- by savefile, then by flow, then as they came
+abbrev pub coming_cmp : Coming → Coming → Ordering
+coming_cmp one other =
+    ordering_then (nat_cmp one.file other.file)
+    (ordering_then (slice_cmp nat_cmp one.flow other.flow) (ordering_then (nat_cmp one.got other.got) (nat_cmp one.wanted other.wanted)))
+
+-- both are of one savefile and one flow
+abbrev pub is_one_flow : Coming → Coming → Bool
+is_one_flow one other = one.file == other.file && bytes_eq one.flow other.flow
+
+-- how many of these come behind one of the same savefile and flow that had to come later; the one before them, and the latest of its flow so
+-- far
+abbrev pub late_behind : Coming → (latest : ℕ) → List Coming → ℕ
+late_behind before latest [] = 0
+late_behind before latest (next ∷ others) =
+    if is_one_flow before next && nat_lt next.wanted latest then suc (late_behind next latest others) else late_behind next next.wanted others
+
+abbrev pub late : List Coming → ℕ
+late [] = 0
+late (first ∷ others) = late_behind first first.wanted others
+
+-- so many of these pairs stand the other way round within their flow: in the order of savefile, flow and coming, each of them is behind one
+-- that had to come later
+pub record AreReordered (frames : List (Bor (List ℕ))) (starts : List ℕ) (pairs : List (ℕ × ℕ)) (count : ℕ) : Type 0 where
+  pub all : List Turn
+  pub each : IsPermutation (map (coming_of frames starts) pairs) (map coming all)
+  pub rise : IsSorted (λ (one other : Turn). coming_cmp (coming one) (coming other)) all
+  pub is : count ≡ late (map coming all)

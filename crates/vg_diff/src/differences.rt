@@ -1,0 +1,214 @@
+//! The packets of both sides, and how they differ.
+ghost use Rattle.std.specs.Prelude.{◌≡◌, ◌≤◌, ◌^◌, ◌++◌, [], length, map, IfOk, OnOk};
+ghost use Rattle.vg_match.specs.Keys.{compared as compared_bytes};
+ghost use Rattle.vg_match.specs.Sides.{seen};
+ghost use Rattle.vg_match.specs.Diffs.{IsDiff};
+ghost use Rattle.vg_diff.specs.Run.{packet_bytes, all_bytes};
+
+use std::alloc::{AllocError, Global};
+use vg_capture::Capture;
+use vg_match::{Diff, Field, Range, Side, compare, compared_all, fronts, views};
+use vg_model::Bytes;
+use vg_report::{EndRef, Report};
+
+/// The most packets of a side.
+const MOST_FRAMES: usize = 0x1_0000_0000;
+
+// Adds the frames of a capture behind the others.
+fn put_frames<'a>(out: &mut Vec<&'a [u8]>, capture: &'a Capture) -> Result<(), AllocError>
+    ensures { OnOk result (seen out.new.items ≡ seen out.old.items ++ packet_bytes capture.now.packets) }
+{
+    for number in 0..capture.packets.len() {
+        out.push(capture.packets.bytes(number))?;
+    }
+    Ok(())
+}
+
+/// The frames of captures, one behind the other.
+///
+/// # Errors
+///
+/// [`AllocError`] where memory runs out.
+pub fn frames_of<'a>(alloc: Global, captures: &'a [Capture]) -> Result<Vec<&'a [u8]>, AllocError>
+    ensures { IfOk result (λ frames. seen frames.items ≡ all_bytes captures.now) }
+{
+    let mut frames = Vec::new(alloc);
+    for capture in captures {
+        put_frames(&mut frames, capture)?;
+    }
+    Ok(frames)
+}
+
+/// The frames of one capture.
+///
+/// # Errors
+///
+/// [`AllocError`] where memory runs out.
+pub fn frames_in(alloc: Global, capture: &Capture) -> Result<Vec<&[u8]>, AllocError>
+    ensures { IfOk result (λ frames. seen frames.items ≡ packet_bytes capture.now.packets) }
+{
+    let mut frames = Vec::new(alloc);
+    put_frames(&mut frames, capture)?;
+    Ok(frames)
+}
+
+/// The number of the first packet of each capture but the first.
+pub fn starts_of(alloc: Global, captures: &[Capture]) -> Result<Vec<u32>, AllocError> {
+    let mut starts = Vec::new(alloc);
+    let mut count = 0u32;
+    for (at, capture) in captures.iter().enumerate() {
+        if at != 0 {
+            starts.push(count)?;
+        }
+        count = count.saturating_add(capture.packets.len() as u32);
+    }
+    Ok(starts)
+}
+
+/// The numbers of a run's packets that were transmitted, or of those that were dropped.
+pub fn numbers_of(alloc: Global, report: &Report, were_sent: bool) -> Result<Vec<u32>, AllocError> {
+    let mut numbers = Vec::new(alloc);
+    for number in 0..report.packets.len() {
+        let is_sent = match report.packets.get(number).end {
+            EndRef::Tx { .. } => true,
+            EndRef::Dropped { .. } => false,
+        };
+        if is_sent == were_sent {
+            numbers.push(number.min(65_536) as u32)?;
+        }
+    }
+    Ok(numbers)
+}
+
+/// The frames of these numbers of a capture, as far as it is given.
+pub fn frames_at<'a>(
+    alloc: Global,
+    capture: &'a Option<Capture>,
+    numbers: &[u32],
+) -> Result<Vec<&'a [u8]>, AllocError> {
+    let mut frames = Vec::new(alloc);
+    let Some(capture) = capture else {
+        return Ok(frames);
+    };
+    for number in numbers {
+        let number = *number as usize;
+        if number < capture.packets.len() {
+            frames.push(capture.packets.bytes(number))?;
+        }
+    }
+    Ok(frames)
+}
+
+// How the packets of both sides differ, with what each is compared by.
+fn compared_by<'k>(
+    alloc: Global,
+    wanted: &Side<'_, '_, 'k>,
+    got: &Side<'_, '_, 'k>,
+    dropped: &Side<'_, '_, '_>,
+    ignored: &[Field],
+    only: &[Range],
+) -> Result<Diff, AllocError>
+    requires wanted { seen wanted.now.keys.now ≡ map (compared_bytes ignored.now) (seen wanted.now.frames.now) }
+    requires got { seen got.now.keys.now ≡ map (compared_bytes ignored.now) (seen got.now.frames.now) }
+    requires dropped { seen dropped.now.keys.now ≡ map (compared_bytes ignored.now) (seen dropped.now.frames.now) }
+    ensures { IfOk result (IsDiff ignored.now
+        (record { only = only.now; wanted = seen wanted.now.frames.now; got = seen got.now.frames.now; dropped = seen dropped.now.frames.now })) }
+{
+    if wanted.frames.len() > MOST_FRAMES
+        || got.frames.len() > MOST_FRAMES
+        || dropped.frames.len() > MOST_FRAMES
+    {
+        return Err(AllocError);
+    }
+    compare(alloc, wanted, got, dropped, ignored, only)
+}
+
+// How the packets of both sides differ where no field is ignored. Nothing is copied.
+fn whole_differences<'f>(
+    alloc: Global,
+    wanted: &[&'f [u8]],
+    got: &[&'f [u8]],
+    dropped: &[&'f [u8]],
+    only: &[Range],
+) -> Result<Diff, AllocError>
+    ensures { IfOk result (IsDiff [] (record { only = only.now; wanted = seen wanted.now; got = seen got.now; dropped = seen dropped.now })) }
+{
+    let wanted_keys = fronts(alloc, wanted)?;
+    let got_keys = fronts(alloc, got)?;
+    let dropped_keys = fronts(alloc, dropped)?;
+    compared_by(
+        alloc,
+        &side(wanted, wanted_keys.as_slice()),
+        &side(got, got_keys.as_slice()),
+        &side(dropped, dropped_keys.as_slice()),
+        &[],
+        only,
+    )
+}
+
+// Frames, with what each is compared by.
+fn side<'s, 'f, 'k>(frames: &'s [&'f [u8]], keys: &'s [&'k [u8]]) -> Side<'s, 'f, 'k>
+    ensures frames { result.frames.now ≡ frames.entry.now }
+    ensures keys { result.keys.now ≡ keys.entry.now }
+{
+    Side { frames, keys }
+}
+
+// How the packets of both sides differ, with rows of what they are compared by.
+fn row_differences<'r>(
+    alloc: Global,
+    wanted: (&[&[u8]], &'r [Bytes]),
+    got: (&[&[u8]], &'r [Bytes]),
+    dropped: (&[&[u8]], &'r [Bytes]),
+    ignored: &[Field],
+    only: &[Range],
+) -> Result<Diff, AllocError>
+    requires wanted { wanted.1.now ≡ map (compared_bytes ignored.now) (seen wanted.0.now) }
+    requires got { got.1.now ≡ map (compared_bytes ignored.now) (seen got.0.now) }
+    requires dropped { dropped.1.now ≡ map (compared_bytes ignored.now) (seen dropped.0.now) }
+    ensures { IfOk result (IsDiff ignored.now (record { only = only.now; wanted = seen wanted.entry.0.now; got = seen got.entry.0.now; dropped = seen dropped.entry.0.now })) }
+{
+    let wanted_keys = views(alloc, wanted.1)?;
+    let got_keys = views(alloc, got.1)?;
+    let dropped_keys = views(alloc, dropped.1)?;
+    compared_by(
+        alloc,
+        &side(wanted.0, wanted_keys.as_slice()),
+        &side(got.0, got_keys.as_slice()),
+        &side(dropped.0, dropped_keys.as_slice()),
+        ignored,
+        only,
+    )
+}
+
+/// How the packets of both sides differ but for these fields, and which of those that had to be dropped came. Where there are ranges, the
+/// packets with an address in one of them are compared alone.
+///
+/// # Errors
+///
+/// [`AllocError`] where memory runs out, or where a side has more than 2^32 packets.
+pub fn differences<'f>(
+    alloc: Global,
+    wanted: &[&'f [u8]],
+    got: &[&'f [u8]],
+    dropped: &[&'f [u8]],
+    ignored: &[Field],
+    only: &[Range],
+) -> Result<Diff, AllocError>
+    ensures { IfOk result (IsDiff ignored.now (record { only = only.now; wanted = seen wanted.now; got = seen got.now; dropped = seen dropped.now })) }
+{
+    if let [] = ignored {
+        return whole_differences(alloc, wanted, got, dropped, only);
+    }
+    let wanted_rows = compared_all(alloc, wanted, ignored)?;
+    let got_rows = compared_all(alloc, got, ignored)?;
+    let dropped_rows = compared_all(alloc, dropped, ignored)?;
+    row_differences(
+        alloc,
+        (wanted, wanted_rows.as_slice()),
+        (got, got_rows.as_slice()),
+        (dropped, dropped_rows.as_slice()),
+        ignored,
+        only,
+    )
+}

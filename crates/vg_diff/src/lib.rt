@@ -1,0 +1,24 @@
+//! What `vgdiff` reads, finds and prints: how the packets that another router put out differ from those of a run.
+//!
+//! In which order to read: `top`, `words` with `prefixes`, `input`, `differences`, `orders`, `lines` with `rows`, `texts` and `classes`,
+//! `answers`; then `linux`, `refusals`, `printing`; `explaining` by itself.
+#![tactic(auto)]
+
+pub mod answers;
+pub mod classes;
+pub mod differences;
+pub mod explaining;
+pub mod input;
+pub mod lines;
+pub mod linux;
+pub mod orders;
+pub mod prefixes;
+pub mod printing;
+pub mod refusals;
+pub mod rows;
+pub mod texts;
+pub mod top;
+pub mod words;
+
+pub use explaining::explain_diff;
+pub use top::diff_run;

@@ -1,0 +1,107 @@
+//! Which packets came in another order than that of their flow.
+ghost use Rattle.std.specs.Prelude.{◌≡◌, map, IfOk};
+ghost use Rattle.vg_diff.specs.Orders.{flow_of as flow_in, coming, coming_of, is_one_flow as is_in_one_flow, late as late_among, AreReordered};
+
+use crate::lines::{file_of, frame_at};
+use std::alloc::{AllocError, Global};
+use vg_match::{Diff, Likeness, likeness_of};
+use vg_model::Bytes;
+
+// A packet that came: the savefile that it stands in, its flow, and its numbers among those that came and those that were wanted. In this
+// order they are compared.
+#[derive(Drop, PartialEq, Eq, PartialOrd, Ord)]
+struct Turn {
+    file: usize,
+    flow: Vec<u8>,
+    got: u32,
+    wanted: u32,
+}
+
+// What the frames of a flow have in common.
+fn flow_of(alloc: Global, frame: &[u8]) -> Result<Bytes, AllocError>
+    ensures { IfOk result (λ flow. flow ≡ flow_in frame.now) }
+{
+    likeness_of(alloc, Likeness::Flow, frame, frame)
+}
+
+// The packet of a pair.
+fn turn_of(
+    alloc: Global,
+    pair: (u32, u32),
+    frames: &[&[u8]],
+    starts: &[u32],
+) -> Result<Turn, AllocError>
+    ensures { IfOk result (λ turn. coming turn ≡ coming_of frames.now starts.now pair) }
+{
+    let (wanted, got) = pair;
+    let flow = flow_of(alloc, frame_at(frames, wanted))?;
+    Ok(Turn {
+        file: file_of(starts, got),
+        flow: flow.into_vec(),
+        got,
+        wanted,
+    })
+}
+
+// The packets of pairs.
+fn turns(
+    alloc: Global,
+    pairs: &[(u32, u32)],
+    frames: &[&[u8]],
+    starts: &[u32],
+) -> Result<Vec<Turn>, AllocError>
+    ensures { IfOk result (λ turns. map coming turns.items ≡ map (coming_of frames.now starts.now) pairs.now) }
+{
+    let mut turns = Vec::new(alloc);
+    for pair in pairs {
+        turns.push(turn_of(alloc, *pair, frames, starts)?)?;
+    }
+    Ok(turns)
+}
+
+// Whether both are of one savefile and one flow.
+fn is_one_flow(one: &Turn, other: &Turn) -> bool
+    ensures { result ≡ is_in_one_flow (coming one.now) (coming other.now) }
+{
+    one.file == other.file && one.flow.as_slice() == other.flow.as_slice()
+}
+
+// How many turns, in the order of savefile, flow and coming, stand behind one of the same that had to come later.
+#[tactic(auto, using(crate::proofs::OrderLemmas::late_more))]
+fn late(turns: &[Turn]) -> usize
+    ensures { result ≡ late_among (map coming turns.now) }
+{
+    let Some((first, others)) = turns.split_first() else {
+        return 0;
+    };
+    let mut before = first;
+    let mut latest = first.wanted;
+    let mut count = 0;
+    for turn in others {
+        if is_one_flow(before, turn) && turn.wanted < latest {
+            count += 1;
+        } else {
+            latest = turn.wanted;
+        }
+        before = turn;
+    }
+    count
+}
+
+/// How many equal packets stand the other way round within their flow: behind one, in the same savefile, that had to come later.
+///
+/// # Errors
+///
+/// [`AllocError`] where memory runs out.
+pub fn reordered(
+    alloc: Global,
+    diff: &Diff,
+    frames: &[&[u8]],
+    starts: &[u32],
+) -> Result<u64, AllocError>
+    ensures { IfOk result (AreReordered frames.now starts.now diff.now.same.items) }
+{
+    let mut turns = turns(alloc, diff.same.as_slice(), frames, starts)?;
+    turns.sort()?;
+    Ok(late(turns.as_slice()) as u64)
+}

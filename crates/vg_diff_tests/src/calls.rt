@@ -1,0 +1,350 @@
+//! Calls of the comparison over folders in memory. Frames and savefiles are written out by hand.
+use std::test::Fail;
+use vg_diff::diff_run;
+use vg_outside::{SureFolder, SureSink};
+
+/// A savefile's header: microseconds, little-endian, Ethernet.
+const HEADER: [u8; 24] = [
+    0xd4, 0xc3, 0xb2, 0xa1, 2, 0, 4, 0, 0, 0, 0, 0, 0, 0, 0, 0, 0xff, 0xff, 0, 0, 1, 0, 0, 0,
+];
+
+/// A UDP datagram of 3 bytes of payload from 10.0.0.1 to 10.0.0.2, port 1 to 2, with time to live 63, in a frame.
+const FIRST: [u8; 45] = [
+    2, 0, 0, 0, 0, 0xb, 2, 0xfe, 0, 0, 0, 1, 8, 0, // frame
+    0x45, 0, 0, 31, 0, 1, 0, 0, 63, 17, 0x67, 0xcb, 10, 0, 0, 1, 10, 0, 0, 2, // IPv4
+    0, 1, 0, 2, 0, 11, 0, 0, b'a', b'b', b'c',
+];
+
+/// The same with identification 2 and another payload.
+const SECOND: [u8; 45] = [
+    2, 0, 0, 0, 0, 0xb, 2, 0xfe, 0, 0, 0, 1, 8, 0, // frame
+    0x45, 0, 0, 31, 0, 2, 0, 0, 63, 17, 0x67, 0xca, 10, 0, 0, 1, 10, 0, 0, 2, // IPv4
+    0, 1, 0, 2, 0, 11, 0, 0, b'x', b'y', b'z',
+];
+
+/// A datagram to 10.9.0.9, for which there is no route.
+const ASTRAY: [u8; 45] = [
+    2, 0xfe, 0, 0, 0, 0, 2, 0, 0, 0, 0, 0xa, 8, 0, // frame
+    0x45, 0, 0, 31, 0, 3, 0, 0, 64, 17, 0x66, 0xb9, 10, 0, 0, 1, 10, 9, 0, 9, // IPv4
+    0, 1, 0, 2, 0, 11, 0, 0, b'n', b'o', b'w',
+];
+
+/// An ARP request.
+const ARP: [u8; 42] = [
+    0xff, 0xff, 0xff, 0xff, 0xff, 0xff, 2, 0, 0, 0, 0, 0xb, 8, 6, // frame
+    0, 1, 8, 0, 6, 4, 0, 1, 2, 0, 0, 0, 0, 0xb, 10, 0, 0, 2, 0, 0, 0, 0, 0, 0, 10, 0, 0, 1,
+];
+
+/// A UDP datagram of 3 bytes of payload from 2001:db8::1 to 2001:db8::2, with hop limit 63, in a frame.
+const SIX: [u8; 65] = [
+    2, 0, 0, 0, 0, 0xb, 2, 0xfe, 0, 0, 0, 1, 0x86, 0xdd, // frame
+    0x60, 0, 0, 0, 0, 11, 17, 63, // IPv6
+    0x20, 1, 0xd, 0xb8, 0, 0, 0, 0, 0, 0, 0, 0, 0, 0, 0, 1, // from
+    0x20, 1, 0xd, 0xb8, 0, 0, 0, 0, 0, 0, 0, 0, 0, 0, 0, 2, // to
+    0, 1, 0, 2, 0, 11, 0, 0, b'a', b'b', b'c',
+];
+
+/// FIRST behind a tag of VLAN 10.
+const TAGGED: [u8; 49] = [
+    2, 0, 0, 0, 0, 0xb, 2, 0xfe, 0, 0, 0, 1, 0x81, 0, 0, 10, 8, 0, // frame
+    0x45, 0, 0, 31, 0, 1, 0, 0, 63, 17, 0x67, 0xcb, 10, 0, 0, 1, 10, 0, 0, 2, // IPv4
+    0, 1, 0, 2, 0, 11, 0, 0, b'a', b'b', b'c',
+];
+
+/// A neighbor solicitation (ICMPv6 135) for fe80::1.
+const SOLICITATION: [u8; 78] = [
+    0x33, 0x33, 0xff, 0, 0, 1, 2, 0, 0, 0, 0, 0xb, 0x86, 0xdd, // frame
+    0x60, 0, 0, 0, 0, 24, 58, 255, // IPv6
+    0xfe, 0x80, 0, 0, 0, 0, 0, 0, 0, 0, 0, 0, 0, 0, 0, 2, // from
+    0xff, 2, 0, 0, 0, 0, 0, 0, 0, 0, 0, 1, 0xff, 0, 0, 1, // to
+    135, 0, 0, 0, 0, 0, 0, 0, 0xfe, 0x80, 0, 0, 0, 0, 0, 0, 0, 0, 0, 0, 0, 0, 0, 1,
+];
+
+/// The report of a run that transmitted packets 0 and 2, and dropped packet 1; packet 0 was traced.
+const REPORT: &[u8] = b"vgd report 1
+workers 1
+buffers 4096
+generations 1
+packets 3
+interface 0 pg0 tx 2
+node 0 pg-input 3
+node 1 handoff-dequeue 0
+node 2 ethernet-input 3
+node 3 ip4-input 3
+node 4 ip4-lookup 3
+node 5 ip4-rewrite 2
+node 6 interface-output 2
+node 7 interface-tx 2
+node 8 error-drop 1
+error ip4-lookup no-route 1
+packet 0 0:0 tx pg0
+packet 1 0:0 drop ip4-lookup no-route
+packet 2 0:0 tx pg0
+trace 0 pg-input ethernet-input
+end
+";
+
+/// Adds a record at so many seconds.
+fn put_record(file: &mut Vec<u8>, seconds: u8, frame: &[u8]) -> Result<(), Fail> {
+    let len = frame.len().min(255) as u8;
+    file.extend_from_slice(&[seconds, 0, 0, 0, 0, 0, 0, 0, len, 0, 0, 0, len, 0, 0, 0])?;
+    file.extend_from_slice(frame)?;
+    Ok(())
+}
+
+/// A savefile of these frames.
+fn savefile<R: AllocGlobal>(rt: &R, frames: &[&[u8]]) -> Result<Vec<u8>, Fail> {
+    let mut file = HEADER.to_vec(rt.alloc())?;
+    let mut seconds = 0u8;
+    for frame in frames {
+        put_record(&mut file, seconds, frame)?;
+        seconds = seconds.wrapping_add(1);
+    }
+    Ok(file)
+}
+
+/// A frame with another byte at a place.
+fn changed<R: AllocGlobal>(rt: &R, frame: &[u8], place: usize, byte: u8) -> Result<Vec<u8>, Fail> {
+    let mut frame = frame.to_vec(rt.alloc())?;
+    if place < frame.len() {
+        frame[place] = byte;
+    }
+    Ok(frame)
+}
+
+/// A frame padded to 60 bytes.
+fn padded<R: AllocGlobal>(rt: &R, frame: &[u8]) -> Result<Vec<u8>, Fail> {
+    let mut frame = frame.to_vec(rt.alloc())?;
+    for more in 0..60 {
+        if frame.len() < 60 {
+            frame.push(7)?;
+        }
+    }
+    Ok(frame)
+}
+
+/// The status and the printed text, where these frames had to come and those did, in one savefile.
+fn told_of<R: AllocGlobal>(
+    rt: &R,
+    options: &[&str],
+    wanted: &[&[u8]],
+    frames: &[&[u8]],
+) -> Result<(u8, Vec<u8>), Fail> {
+    let alloc = rt.alloc();
+    let mut folder = SureFolder::new(alloc);
+    folder.add("c", savefile(rt, &[&FIRST, &ASTRAY, &SECOND])?.as_slice())?;
+    folder.add("t", savefile(rt, wanted)?.as_slice())?;
+    folder.add("r", REPORT)?;
+    folder.add("o", savefile(rt, frames)?.as_slice())?;
+    let mut words = options.to_vec(alloc)?;
+    words.extend_from_slice(&["t", "r", "o"])?;
+    let mut out = SureSink::new(alloc);
+    let status = diff_run(alloc, words.as_slice(), &mut folder, &mut out);
+    Ok((status, out.written().to_vec(alloc)?))
+}
+
+/// The same where FIRST and SECOND had to come.
+fn told<R: AllocGlobal>(rt: &R, options: &[&str], frames: &[&[u8]]) -> Result<(u8, Vec<u8>), Fail> {
+    told_of(rt, options, &[&FIRST, &SECOND], frames)
+}
+
+#[test]
+fn equal_sets_match_in_any_order(rt: HostRuntime) -> Result<(), Fail> {
+    let (status, text) = told(&rt, &[], &[&FIRST, &SECOND])?;
+    assert_eq!(rt; status, 0);
+    assert!(rt; text.as_slice() == b"same 2\nreordered 0\nnoise 0 0\nend\n".as_slice());
+    let (status, text) = told(&rt, &[], &[&SECOND, &FIRST])?;
+    assert_eq!(rt; status, 0);
+    assert!(rt; text.as_slice() == b"same 2\nreordered 1\nnoise 0 0\nend\n".as_slice());
+    Ok(())
+}
+
+#[test]
+fn padding_and_noise_do_not_count(rt: HostRuntime) -> Result<(), Fail> {
+    let first = padded(&rt, &FIRST)?;
+    let (status, text) = told(&rt, &[], &[&ARP, first.as_slice(), &SECOND])?;
+    assert_eq!(rt; status, 0);
+    assert!(rt; text.as_slice() == b"same 2\nreordered 0\nnoise 0 1\nend\n".as_slice());
+    Ok(())
+}
+
+#[test]
+fn a_ttl_that_was_not_lowered_is_found(rt: HostRuntime) -> Result<(), Fail> {
+    let other = changed(&rt, &SECOND, 22, 64)?;
+    let (status, text) = told(&rt, &[], &[&FIRST, other.as_slice()])?;
+    assert_eq!(rt; status, 9);
+    assert!(rt;
+        text.as_slice() == b"same 1\nchanged 2 ttl 3f 40\nreordered 0\nnoise 0 0\nend\n".as_slice()
+    );
+    let (status, text) = told(&rt, &["--brief"], &[&FIRST, other.as_slice()])?;
+    assert_eq!(rt; status, 9);
+    assert!(rt;
+        text.as_slice()
+            == b"same 1\nmissing 0\nchanged 1\nextra 0\ndropped-but-there 0\nreordered 0\nnoise 0 0\nend\n".as_slice()
+    );
+    Ok(())
+}
+
+#[test]
+fn classes_have_an_example_each(rt: HostRuntime) -> Result<(), Fail> {
+    let other = changed(&rt, &SECOND, 22, 64)?;
+    let (status, text) = told(&rt, &["--classes"], &[other.as_slice(), &ASTRAY])?;
+    assert_eq!(rt; status, 9);
+    assert!(rt;
+        text.as_slice()
+            == b"same 0\nclass missing 1 0:1\nclass changed ttl 1 0:1\nclass extra 1 0:2\nreordered 0\nnoise 0 0\nend\n".as_slice()
+    );
+    Ok(())
+}
+
+#[test]
+fn a_field_may_be_ignored(rt: HostRuntime) -> Result<(), Fail> {
+    let other = changed(&rt, &SECOND, 22, 64)?;
+    let (status, _) = told(&rt, &["--ignore", "ttl"], &[&FIRST, other.as_slice()])?;
+    assert_eq!(rt; status, 0);
+    let (status, _) = told(&rt, &["--ignore", "checksum"], &[&FIRST, other.as_slice()])?;
+    assert_eq!(rt; status, 9);
+    Ok(())
+}
+
+#[test]
+fn fields_of_ip6_and_of_a_tag_are_named(rt: HostRuntime) -> Result<(), Fail> {
+    let six = changed(&rt, &SIX, 21, 64)?;
+    let tagged = changed(&rt, &TAGGED, 15, 11)?;
+    let (status, text) = told_of(
+        &rt,
+        &[],
+        &[&SIX, &TAGGED],
+        &[&SOLICITATION, six.as_slice(), tagged.as_slice()],
+    )?;
+    assert_eq!(rt; status, 9);
+    assert!(rt;
+        text.as_slice()
+            == b"same 0\nchanged 0 ttl 3f 40\nchanged 2 vlan 000a 000b\nreordered 0\nnoise 0 1\nend\n".as_slice()
+    );
+    Ok(())
+}
+
+#[test]
+fn the_comparison_may_be_limited_to_prefixes(rt: HostRuntime) -> Result<(), Fail> {
+    let only = ["--only", "2001:db8::2/128"];
+    let (status, text) = told_of(&rt, &only, &[&SIX, &FIRST], &[&SIX])?;
+    assert_eq!(rt; status, 0);
+    assert!(rt; text.as_slice() == b"same 1\nreordered 0\nnoise 1 0\nend\n".as_slice());
+    let only = ["--only", "10.0.0.1/32"];
+    let (status, text) = told_of(&rt, &only, &[&SIX, &FIRST], &[&SIX])?;
+    assert_eq!(rt; status, 9);
+    assert!(rt; text.as_slice() == b"same 0\nmissing 2\nreordered 0\nnoise 1 1\nend\n".as_slice());
+    let (status, _) = told_of(&rt, &["--only", "10.0.0.1"], &[&FIRST, &SECOND], &[&FIRST])?;
+    assert_eq!(rt; status, 2);
+    Ok(())
+}
+
+#[test]
+fn a_checksum_alone_is_told(rt: HostRuntime) -> Result<(), Fail> {
+    let other = changed(&rt, &FIRST, 24, 0)?;
+    let (status, text) = told(&rt, &[], &[&SECOND, other.as_slice()])?;
+    assert_eq!(rt; status, 9);
+    assert!(rt;
+        text.as_slice()
+            == b"same 1\nchanged 0 checksum 67cb 00cb\nreordered 0\nnoise 0 0\nend\n".as_slice()
+    );
+    Ok(())
+}
+
+#[test]
+fn one_twice_is_extra_and_one_missing_is_missing(rt: HostRuntime) -> Result<(), Fail> {
+    let (status, text) = told(&rt, &[], &[&FIRST, &SECOND, &FIRST])?;
+    assert_eq!(rt; status, 9);
+    assert!(rt;
+        text.as_slice() == b"same 2\nextra 2 0:3\nreordered 0\nnoise 0 0\nend\n".as_slice()
+    );
+    let (status, text) = told(&rt, &[], &[&SECOND])?;
+    assert_eq!(rt; status, 9);
+    assert!(rt;
+        text.as_slice()
+            == b"same 1\nmissing 0 pg-input ethernet-input\nreordered 0\nnoise 0 0\nend\n".as_slice()
+    );
+    Ok(())
+}
+
+#[test]
+fn a_dropped_one_that_came_is_told(rt: HostRuntime) -> Result<(), Fail> {
+    let sent = changed(&rt, &ASTRAY, 22, 63)?;
+    let frames: &[&[u8]] = &[&FIRST, sent.as_slice(), &SECOND];
+    let (status, text) = told(&rt, &["--capture", "c"], frames)?;
+    assert_eq!(rt; status, 9);
+    assert!(rt;
+        text.as_slice()
+            == b"same 2\ndropped-but-there 1 ip4-lookup no-route 0:2\nreordered 0\nnoise 0 0\nend\n".as_slice()
+    );
+    let (status, text) = told(&rt, &[], frames)?;
+    assert_eq!(rt; status, 9);
+    assert!(rt;
+        text.as_slice() == b"same 2\nextra 1 0:2\nreordered 0\nnoise 0 0\nend\n".as_slice()
+    );
+    Ok(())
+}
+
+#[test]
+fn refusals_have_their_status_and_their_line(rt: HostRuntime) -> Result<(), Fail> {
+    let alloc = rt.alloc();
+    let mut folder = SureFolder::new(alloc);
+    folder.add("t", savefile(&rt, &[&FIRST])?.as_slice())?;
+    folder.add("bad", b"no savefile at all")?;
+    folder.add("r", REPORT)?;
+    for (words, status, line) in [
+        (["t", "--brief", "o"], 2, "usage\n"),
+        (["nowhere", "r", "t"], 3, "load nowhere\n"),
+        (["bad", "r", "t"], 4, "capture not-pcap 0\n"),
+        (["t", "bad", "t"], 5, "report 1 form\n"),
+        (["t", "r", "t"], 5, "report packets\n"),
+    ] {
+        let mut out = SureSink::new(alloc);
+        let found = diff_run(alloc, words.as_slice(), &mut folder, &mut out);
+        assert_eq!(rt; found, status, "{line}");
+        assert!(rt; out.written() == line.as_bytes(), "{line}");
+    }
+    Ok(())
+}
+
+/// A script with a neighbor, a route over it, one that drops, and an edit which the kernel doesn't know.
+const SCRIPT: &[u8] = b"interface pg1 mac 02:fe:00:00:00:01 mtu 1400 down
+adjacency near interface pg0 dst 02:00:00:00:00:0a
+adjacency far interface pg1 dst 02:00:00:00:00:0b
+route 10.0.0.0/8 via near
+route 10.1.0.0/16 via near,far
+route 10.2.0.0/16 via far
+route 10.3.0.0/16 drop
+route6 2001:db8::/32 local
+node more kind ip4-input
+";
+
+/// The commands for it.
+const COMMANDS: &[u8] = b"# sysctl -w net.ipv4.ip_forward=1 net.ipv6.conf.all.forwarding=1
+ip link set dev pg0 address 02:fe:00:00:00:00 mtu 9000 up
+# pg0 takes frames to every address; the kernel's router takes those to its own
+ip link set dev pg1 address 02:fe:00:00:00:01 mtu 1400 down
+# pg1 takes frames to every address; the kernel's router takes those to its own
+ip neighbor replace 198.18.0.1 lladdr 02:00:00:00:00:0a dev pg0 nud permanent
+ip neighbor replace fe80::1 lladdr 02:00:00:00:00:0a dev pg0 nud permanent
+# far is behind an interface which is down
+ip route replace 10.0.0.0/8 via 198.18.0.1 dev pg0 onlink
+ip route replace 10.1.0.0/16 nexthop via 198.18.0.1 dev pg0 onlink
+ip route replace blackhole 10.2.0.0/16
+ip route replace blackhole 10.3.0.0/16
+ip -6 route replace local 2001:db8:0:0:0:0:0:0/32 dev lo
+# line 9 of the script has a node, which ip can't say
+";
+
+#[test]
+fn the_kernels_router_is_set_up_by_commands(rt: HostRuntime) -> Result<(), Fail> {
+    let alloc = rt.alloc();
+    let mut folder = SureFolder::new(alloc);
+    folder.add("s", SCRIPT)?;
+    let mut out = SureSink::new(alloc);
+    let status = diff_run(alloc, &["--linux", "s"], &mut folder, &mut out);
+    assert_eq!(rt; status, 0);
+    assert!(rt; out.written() == COMMANDS);
+    Ok(())
+}

@@ -1,0 +1,5 @@
+pub mod MergeLemmas
+pub mod MaskLemmas
+pub mod SideLemmas
+pub mod DiffLemmas
+pub mod ExactLemmas

@@ -1,0 +1,17 @@
+use Rattle.std.proofs.Common.{◌+◌, ◌-◌, ◌≤◌, length, drop}
+use Rattle.vg_match.proofs.MergeLemmas.{Pass, IsPass}
+use Rattle.vg_match.proofs.matching.merge.Given as goal
+
+abbrev pub invariant-loop-next : goal.invariant-loop-next
+invariant-loop-next l =
+    (l.next ≤ length l.wanted) × (l.coming ≤ length l.got)
+    × IsPass l.wanted l.got (record {
+      pairs = l.pairs.items;
+      missing = l.missing.items;
+      extra = l.extra.items;
+      wanted = drop l.next l.wanted;
+      got = drop l.coming l.got;
+    })
+
+abbrev pub decreases-loop-next : goal.decreases-loop-next
+decreases-loop-next l = (length l.wanted - l.next) + (length l.got - l.coming)

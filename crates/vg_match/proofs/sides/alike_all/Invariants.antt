@@ -1,0 +1,7 @@
+use Rattle.std.proofs.Common.{◌≡◌, ◌≤◌, [], ◌++◌, length, map, take, drop, All}
+use Rattle.vg_match.specs.Keys.{compared}
+use Rattle.vg_match.specs.Sides.{seen, number_of, key_of, meant_numbers, IsOf, alike_at}
+use Rattle.vg_match.proofs.sides.alike_all.Given as goal
+
+abbrev pub invariant-loop-number : goal.invariant-loop-number
+invariant-loop-number l = l.rows.items ≡ map (alike_at l.likeness (seen l.side.frames.now) (seen l.side.keys.now)) (take l.number-index l.numbers)

@@ -1,0 +1,7 @@
+use Rattle.std.proofs.Common.{◌≡◌, ◌≤◌, [], ◌++◌, length, map, take, drop, All}
+use Rattle.vg_match.specs.Keys.{compared}
+use Rattle.vg_match.specs.Sides.{seen, number_of, key_of, meant_numbers, IsOf, alike_at}
+use Rattle.vg_match.proofs.sides.with_keys.Given as goal
+
+abbrev pub invariant-loop-at : goal.invariant-loop-at
+invariant-loop-at l = (map number_of l.made.items ≡ take l.at l.numbers) × (map key_of l.made.items ≡ take l.at l.rows)
