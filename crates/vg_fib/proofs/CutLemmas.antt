@@ -1,23 +1,20 @@
 -- Spans of addresses that are cut, and numbers that are raised in them.
-use Rattle.std.proofs.Common.{◌≡◌, ◌≢◌, ℕ, ◌+◌, ◌-◌, ◌<◌, ◌≤◌, ◌^◌, ◌⊎◌, List, [], ◌∷◌, length, get_or, refl, sym, ◌∙◌, ap, subst, arith, inl, inr}
+use Rattle.std.proofs.Common.{◌≡◌, ◌≢◌, ℕ, ◌+◌, ◌-◌, ◌<◌, ◌≤◌, ◌^◌, ◌⊎◌, List, map, length, get_or, refl, sym, ◌∙◌, ap, subst, arith, inl, inr}
 use Rattle.std.proofs.lemmas.Bool.{cases_order, cases_lt, cases_eq}
 use Rattle.std.proofs.lemmas.List.Edits.{length-insert, get_or-insert_below, get_or-insert_at, get_or-insert_above}
-use Rattle.std.specs.Prelude.{Some, slice_get}
-use Rattle.std.proofs.lemmas.List.{length-map, get_or_default}
+use Rattle.std.proofs.lemmas.List.{length-map, get_or-map, get_or_default}
 use Rattle.std.specs.List.{insert}
 use Rattle.vg_model.specs.declared.routes.Prefix6.{Prefix6}
-use Rattle.vg_model.specs.declared.routes.RouteTo.{RouteTo}
-use Rattle.vg_model.specs.Route.{ip6}
+use Rattle.vg_model.specs.Route.{ip6, covers_of}
 use Rattle.vg_fib.specs.Table.{Routes6}
-use Rattle.vg_fib.specs.Numbers.{longer_of, IsBestOf, BeginsWith}
+use Rattle.vg_fib.specs.Numbers.{SlotsOf, IsBestOf}
 use Rattle.vg_fib.specs.Order.{IsOrder, rank, ranks}
 use Rattle.vg_fib.specs.Trie.{IsRaised}
-use Rattle.vg_fib.specs.Spans.{start_of, IsLast, AreRising, AreSpans, HasNumber, IsCut, IsRaisedIn, IsSpread, end_of, HasFirst6, AreRoutesOf}
+use Rattle.vg_fib.specs.Spans.{start_of, IsLast, AreRising, AreSpans, HasNumber, IsCut, IsChangedAt, IsSpreadAt, end_of, HasFirst6, AreRoutesOf}
 use Rattle.vg_fib.specs.declared.spans.Spans.{Spans}
 use Rattle.vg_fib.proofs.PrefixLemmas.{are6}
 use Rattle.vg_fib.proofs.SpanLemmas.{InSpan, chosen_by_span}
-use Rattle.vg_fib.proofs.TableLemmas.{empty_table}
-use Rattle.vg_fib.proofs.NumberLemmas.{ArePut, best_among, best_renewed, nothing_best, number_after_turn, put_before, put_next}
+use Rattle.vg_fib.proofs.NumberLemmas.{ArePut, best_among, number_after_turn, put_before, put_next}
 
 -- starts rise from a place to one that isn't before it
 pub rises : (starts : List ℕ) (i j : ℕ) → AreRising starts → i ≤ j → j < length starts → start_of starts i ≤ start_of starts j
@@ -251,7 +248,7 @@ module _ (prefix : Prefix6) (f : ℕ → ℕ) (from to : ℕ) (old_starts old_nu
         let end : start_of starts to ≡ end_of prefix = marked.ends (omega (arith, has.lies.inside)) in
         omega (arith, up, end, has.lies.from, there.1)
 
-    pub spread_number : IsRaisedIn prefix f old_starts old_numbers a n
+    pub spread_number : IsChangedAt (covers_of ip6 prefix) f old_starts old_numbers a n
     spread_number = elim (cases_lt has.place from) [
       | inl low ↦
           let same : get_or new has.place 0 ≡ old = raised.outside has.place (λ h _. omega (arith, h, low)) in
@@ -267,36 +264,36 @@ module _ (prefix : Prefix6) (f : ℕ → ℕ) (from to : ℕ) (old_starts old_nu
     ]
 
 -- the number of an address among the places that were put so far
-pub record HasPut (routes : Routes6) (known : ℕ) (order : List ℕ) (turn : ℕ) (spans : Spans) : Type 0 where
+pub record HasPut (slots : SlotsOf Prefix6) (known : ℕ) (order : List ℕ) (turn : ℕ) (spans : Spans) : Type 0 where
   pub shape : AreSpans spans.starts.items spans.numbers.items
   pub numbers : (address number : ℕ) → address < 2 ^ 128 → HasNumber spans.starts.items spans.numbers.items address number
-      → IsBestOf ip6 routes (ArePut known order turn) address number
+      → IsBestOf ip6 slots (ArePut known order turn) address number
 
--- before the first turn the first routes are put
-pub put_begins : (routes : Routes6) (known : ℕ) (order : List ℕ) (spans : Spans) → HasFirst6 routes known spans → HasPut routes known order 0 spans
-put_begins routes known order spans has = record {
+-- before the first turn the first slots' routes are put
+pub put_begins : (slots : SlotsOf Prefix6) (known : ℕ) (order : List ℕ) (spans : Spans) → HasFirst6 slots known spans → HasPut slots known order 0 spans
+put_begins slots known order spans has = record {
   shape = has.shape;
   numbers = λ address number bound there.
-      best_among are6 routes (λ k. k < known) (ArePut known order 0) address number (λ k within here. put_before known order k here) (has.numbers address number bound there);
+      best_among are6 slots (λ k. k < known) (ArePut known order 0) address number (λ k within here. put_before known order k here) (has.numbers address number bound there);
 }
 
 -- in a turn the next place of the order is put
-pub put_turn : (routes : Routes6) (known turn q : ℕ) (order : List ℕ) (route : Prefix6 × RouteTo) (old new : Spans) → get_or order turn 0 ≡ q → q < length routes
-    → slice_get routes q ≡ Some route → IsSpread route.0 (longer_of ip6 routes (q + 1)) old new → HasPut routes known order turn old → HasPut routes known order (turn + 1) new
-put_turn routes known turn q order route old new at inside here spread put = record {
+pub put_turn : (slots : SlotsOf Prefix6) (known turn q : ℕ) (order : List ℕ) (before after : Spans) → get_or order turn 0 ≡ q → q < length slots
+    → IsSpreadAt slots q before after → HasPut slots known order turn before → HasPut slots known order (turn + 1) after
+put_turn slots known turn q order before after at inside spread put = record {
   shape = spread.shape;
   numbers = λ address number bound has.
       let raised = spread.numbers address number bound has in
-      number_after_turn are6 routes known turn q address raised.old number order route at inside here (put.numbers address raised.old bound raised.had) raised.is;
+      number_after_turn are6 slots known turn q address raised.old number order at inside (put.numbers address raised.old bound raised.had) raised.is;
 }
 
 -- or it is one that was put before
-pub put_skips : (routes : Routes6) (known turn q : ℕ) (order : List ℕ) (spans : Spans) → get_or order turn 0 ≡ q → q < known
-    → HasPut routes known order turn spans → HasPut routes known order (turn + 1) spans
-put_skips routes known turn q order spans at first put = record {
+pub put_skips : (slots : SlotsOf Prefix6) (known turn q : ℕ) (order : List ℕ) (spans : Spans) → get_or order turn 0 ≡ q → q < known
+    → HasPut slots known order turn spans → HasPut slots known order (turn + 1) spans
+put_skips slots known turn q order spans at first put = record {
   shape = put.shape;
   numbers = λ address number bound has.
-      best_among are6 routes (ArePut known order turn) (ArePut known order (turn + 1)) address number (λ k within here. still k here) (put.numbers address number bound has);
+      best_among are6 slots (ArePut known order turn) (ArePut known order (turn + 1)) address number (λ k within here. still k here) (put.numbers address number bound has);
 }
   where
     still : (k : ℕ) → ArePut known order (turn + 1) k → ArePut known order turn k
@@ -305,20 +302,32 @@ put_skips routes known turn q order spans at first put = record {
       | inr e ↦ inl (omega (arith, e, first))
     ]
 
+-- the slots of places in a table, which are the last
+abbrev pub slots_of : ℕ → List ℕ → List ℕ
+slots_of empty order = map (λ place. empty + place) order
+
+-- the slot of a place that was read
+pub slot_read : (empty turn place : ℕ) (order : List ℕ) → turn < length order → place ≡ get_or order turn 0 → get_or (slots_of empty order) turn 0 ≡ empty + place
+slot_read empty turn place order inside is = get_or-map (λ place. empty + place) order turn 0 0 inside ∙ ap (λ n. empty + n) (sym is)
+
 -- after the last turn all are put
-pub put_ends : (routes : Routes6) (known turn : ℕ) (order : List ℕ) (spans : Spans) → IsOrder (ranks ip6 routes) order → length order ≤ turn
-    → HasPut routes known order turn spans → HasFirst6 routes (length routes) spans
-put_ends routes known turn order spans is past put = record {
+pub put_ends : (slots : SlotsOf Prefix6) (routes : Routes6) (known turn empty : ℕ) (order : List ℕ) (spans : Spans) → IsOrder (ranks ip6 routes) order → length order ≤ turn
+    → empty + length routes ≡ length slots → empty ≤ known → HasPut slots known (slots_of empty order) turn spans → HasFirst6 slots (length slots) spans
+put_ends slots routes known turn empty order spans is past last low put = record {
   shape = put.shape;
   numbers = λ address number bound has.
-      best_among are6 routes (ArePut known order turn) (λ k. k < length routes) address number (λ k within _. all k within) (put.numbers address number bound has);
+      best_among are6 slots (ArePut known (slots_of empty order) turn) (λ k. k < length slots) address number (λ k within _. all k within) (put.numbers address number bound has);
 }
   where
-    all : (k : ℕ) → k < length routes → ArePut known order turn k
-    all k within =
-        let len : length (ranks ip6 routes) ≡ length routes = length-map routes (λ route. rank ip6 route.0) in
-        let stands = is.each k (omega (arith, len)) in
-        inr (stands.0, omega (arith, stands.1, past), stands.2)
+    all : (k : ℕ) → k < length slots → ArePut known (slots_of empty order) turn k
+    all k within = elim (cases_lt k empty) [
+      | inl before ↦ inl (omega (arith, before, low))
+      | inr behind ↦
+          let len : length (ranks ip6 routes) ≡ length routes = length-map routes (λ route. rank ip6 route.0) in
+          let stands = is.each (k - empty) (omega (arith, len, last, within, behind)) in
+          let here : get_or (slots_of empty order) stands.0 0 ≡ empty + (k - empty) = slot_read empty stands.0 (k - empty) order stands.1 (sym stands.2) in
+          inr (stands.0, omega (arith, stands.1, past), omega (arith, here, behind))
+    ]
 
 -- a place of the order is one of the routes
 pub order_within : (routes : Routes6) (order : List ℕ) (turn : ℕ) → IsOrder (ranks ip6 routes) order → turn < length order → get_or order turn 0 < length routes
@@ -326,46 +335,9 @@ order_within routes order turn is inside =
     let len : length (ranks ip6 routes) ≡ length routes = length-map routes (λ route. rank ip6 route.0) in
     omega (arith, len, is.within turn inside)
 
--- spans that have the routes of a list have those of one that begins with the same prefixes
-pub spans_renewed : (routes first : Routes6) (known : ℕ) (spans : Spans) → known ≡ length first → BeginsWith routes first
-    → HasFirst6 first (length first) spans → HasFirst6 routes known spans
-spans_renewed routes first known spans is begins has =
-    subst (λ known. HasFirst6 routes known spans) (sym is) (record {
-      shape = has.shape;
-      numbers = λ address number bound there. best_renewed are6 routes first address number begins (has.numbers address number bound there);
-    })
-
--- one span with no route
-one_span : AreSpans (0 ∷ []) (0 ∷ [])
-one_span = record {
-  some = omega arith;
-  first = refl;
-  rising = λ i j before inside. absurd (omega (arith, before, inside));
-  numbered = refl;
-}
-
-only_number : (a n : ℕ) → HasNumber (0 ∷ []) (0 ∷ []) a n → n ≡ 0
-only_number a n has =
-    let here : has.place ≡ 0 = omega (arith, has.lies.inside) in
-    sym has.is ∙ ap (λ k. get_or (0 ∷ []) k 0) here
-
--- spans with no route
-pub no_route_put : (routes : Routes6) (spans : Spans) → routes ≡ [] → spans.starts.items ≡ 0 ∷ [] → spans.numbers.items ≡ 0 ∷ [] → AreRoutesOf routes spans
-no_route_put routes spans none starts numbers =
-    subst (λ routes. AreRoutesOf routes spans) (sym none) (record {
-      table = empty_table are6;
-      has = record {
-        shape = rw (starts, numbers) one_span;
-        numbers = λ address number bound there.
-            let has : HasNumber (0 ∷ []) (0 ∷ []) address number = subst (λ xs. HasNumber xs (0 ∷ []) address number) starts
-            (subst (λ xs. HasNumber spans.starts.items xs address number) numbers there) in
-            nothing_best are6 (λ k. k < 0) address number (only_number address number has);
-      };
-    })
-
 -- the number that was read at an address's span is its best
-pub best_read : (routes : Routes6) (spans : Spans) (address place number : ℕ) → AreRoutesOf routes spans → address < 2 ^ 128
-    → IsLast spans.starts.items 1 address place → number ≡ get_or spans.numbers.items place number → IsBestOf ip6 routes (λ k. k < length routes) address number
-best_read routes spans address place number are bound lies read =
+pub best_read : (slots : SlotsOf Prefix6) (spans : Spans) (address place number : ℕ) → AreRoutesOf slots spans → address < 2 ^ 128
+    → IsLast spans.starts.items 1 address place → number ≡ get_or spans.numbers.items place number → IsBestOf ip6 slots (λ k. k < length slots) address number
+best_read slots spans address place number are bound lies read =
     let inside : place < length spans.numbers.items = omega (arith, are.has.shape.numbered, lies.inside) in
     are.has.numbers address number bound (record { place = place; lies = lies; is = get_or_default spans.numbers.items place 0 number inside ∙ sym read })

@@ -1,5 +1,7 @@
 pub mod BestLemmas
 pub mod CutLemmas
+pub mod FollowLemmas
+pub mod HeirLemmas
 pub mod LevelLemmas
 pub mod ListLemmas
 pub mod LongestLemmas

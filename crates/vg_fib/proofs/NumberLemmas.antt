@@ -1,22 +1,17 @@
 -- Numbers of routes: where all routes are put, an address's number is that of its best route.
-use Rattle.std.proofs.Common.{◌≡◌, ℕ, zero, suc, ◌+◌, ◌-◌, ◌<◌, ◌≤◌, ◌≢◌, ◌⊎◌, inl, inr, true, false, List, [], length, get_or, refl, sym, ◌∙◌, ap, subst, arith}
+use Rattle.std.proofs.Common.{◌≡◌, ℕ, zero, suc, ◌+◌, ◌-◌, ◌<◌, ◌≤◌, ◌≢◌, ◌⊎◌, inl, inr, true, false, List, [], ◌∷◌, length, get_or, refl, sym, ◌∙◌, ap, subst, arith}
 use Rattle.std.proofs.lemmas.Bool.{cases_eq, cases_lt, false≢true, ltb-true, ltb-false}
-use Rattle.std.proofs.lemmas.List.{get_or_default}
-use Rattle.std.proofs.lemmas.List.Elements.{Contains-get_or}
+use Rattle.std.proofs.lemmas.List.{get_or_default, get_or_past}
+use Rattle.std.proofs.lemmas.List.Elements.{Contains-get_or, All-from_recursion}
 use Rattle.std.proofs.lemmas.List.Sorted.{Contains-permutation, IsPermutation-sym, length_permutation}
-use Rattle.std.proofs.lemmas.Option.{slice_get-get_or, slice_get_read}
-use Rattle.std.specs.Prelude.{Some, option_map, slice_get, nat_lt, IsPermutation, if◌then◌else◌}
-use Rattle.std.specs.List.{Contains}
+use Rattle.std.specs.Prelude.{Option, Some, None, option_map, nat_lt, IsPermutation, if◌then◌else◌}
+use Rattle.std.specs.List.{Contains, AllByRecursion}
 use Rattle.vg_model.specs.declared.routes.RouteTo.{RouteTo}
-use Rattle.vg_model.specs.declared.routes.RouteTo.TheVariants.{Local}
 use Rattle.vg_model.specs.Route.{PrefixKind, RoutesOf, covers_of, best_of}
-use Rattle.vg_fib.specs.declared.trie.Levels.{Levels}
-use Rattle.vg_fib.specs.Table.{Routes, HasOneEach}
-use Rattle.vg_fib.specs.Numbers.{length_if, length_at, length_of, longer_of, covers_if, covers_at, target_of, IsBestOf, BeginsWith, AreFrom}
-use Rattle.vg_fib.specs.Trie.{IsLevels, HasFirst, IsTrie, number_at}
-use Rattle.vg_fib.proofs.PrefixLemmas.{ArePrefixes, are4}
-use Rattle.vg_fib.proofs.TableLemmas.{empty_table}
-use Rattle.vg_fib.proofs.BestLemmas.{covering, no_answer, longest_match_is_best}
+use Rattle.vg_fib.specs.Table.{HasOneEach}
+use Rattle.vg_fib.specs.Numbers.{SlotsOf, routes_in, slot_at, length_if, length_at, length_of, longer_of, covers_if, covers_at, target_of, IsBestOf, AreFrom}
+use Rattle.vg_fib.proofs.PrefixLemmas.{ArePrefixes}
+use Rattle.vg_fib.proofs.BestLemmas.{covering, IsElsewhere, IsAtMost, no_answer, longest_match_is_best}
 
 -- the places that were put so far: the first ones, and those that stand first in the order
 abbrev pub ArePut : ℕ → List ℕ → ℕ → ℕ → Type 0
@@ -61,184 +56,178 @@ from_permutation known all rising order count is moved =
           (there.0, there.1, get_or_default order there.0 0 (get_or rising i 0) there.1 ∙ (there.2 ∙ value));
     }
 
+-- what was read in a slot stands there
+pub slot_is : {P : Type 0} (slots : SlotsOf P) (place : ℕ) (read slot : Option (P × RouteTo)) → place < length slots → read ≡ get_or slots place read → read ≡ slot
+    → slot_at slots place ≡ slot
+slot_is slots place read slot within at is = get_or_default slots place None read within ∙ (sym at ∙ is)
+
+-- at a place, slots and others have the same prefix or none
+pub record HasSame {P : Type 0} (kind : PrefixKind P) (slots others : SlotsOf P) (address k : ℕ) : Type 0 where
+  pub covers : covers_at kind others k address ≡ covers_at kind slots k address
+  pub long : length_at kind others k ≡ length_at kind slots k
+
 module _ {P : Type 0} {kind : PrefixKind P} (are : ArePrefixes kind) where
-  -- a route, for lists that have none
-  any_route : P × RouteTo
-  any_route = (are.some, Local)
-
-  -- a place's length and cover by the route that stands there
-  length_there : (routes : RoutesOf P) (k : ℕ) (d : P × RouteTo) → k < length routes → length_at kind routes k ≡ kind.len (get_or routes k d).0
-  length_there routes k d within = ap (length_if kind) (slice_get-get_or routes k d within)
-
-  covers_there : (routes : RoutesOf P) (k address : ℕ) (d : P × RouteTo) → k < length routes → covers_at kind routes k address ≡ covering kind address (get_or routes k d)
-  covers_there routes k address d within = ap (λ o. covers_if kind o address) (slice_get-get_or routes k d within)
-
   -- the best number among some places is so among fewer
-  pub best_among : (routes : RoutesOf P) (places fewer : ℕ → Type 0) (address number : ℕ) → ((k : ℕ) → k < length routes → fewer k → places k)
-      → IsBestOf kind routes places address number → IsBestOf kind routes fewer address number
-  best_among routes places fewer address zero each best = λ k within here. best k within (each k within here)
-  best_among routes places fewer address (suc place) each best = record {
+  pub best_among : (slots : SlotsOf P) (places fewer : ℕ → Type 0) (address number : ℕ) → ((k : ℕ) → k < length slots → fewer k → places k)
+      → IsBestOf kind slots places address number → IsBestOf kind slots fewer address number
+  best_among slots places fewer address zero each best = λ k within here. best k within (each k within here)
+  best_among slots places fewer address (suc place) each best = record {
     within = best.within;
     covers = best.covers;
     longest = λ k within here. best.longest k within (each k within here);
   }
 
   -- the best number among places, with one more that doesn't cover the address
-  best_with_other : (routes : RoutesOf P) (places more : ℕ → Type 0) (address q number : ℕ) → ((k : ℕ) → more k → places k ⊎ (k ≡ q))
-      → covers_at kind routes q address ≡ false → IsBestOf kind routes places address number → IsBestOf kind routes more address number
-  best_with_other routes places more address q zero each off best = λ k within here. elim (each k here) [
+  best_with_other : (slots : SlotsOf P) (places more : ℕ → Type 0) (address q number : ℕ) → ((k : ℕ) → more k → places k ⊎ (k ≡ q))
+      → covers_at kind slots q address ≡ false → IsBestOf kind slots places address number → IsBestOf kind slots more address number
+  best_with_other slots places more address q zero each off best = λ k within here. elim (each k here) [
     | inl there ↦ best k within there
-    | inr e ↦ subst (λ k. covers_at kind routes k address ≡ false) (sym e) off
+    | inr e ↦ subst (λ k. covers_at kind slots k address ≡ false) (sym e) off
   ]
-  best_with_other routes places more address q (suc place) each off best = record {
+  best_with_other slots places more address q (suc place) each off best = record {
     within = best.within;
     covers = best.covers;
     longest = λ k within here yes. elim (each k here) [
       | inl there ↦ best.longest k within there yes
-      | inr e ↦ absurd (false≢true (sym off ∙ subst (λ k. covers_at kind routes k address ≡ true) e yes))
+      | inr e ↦ absurd (false≢true (sym off ∙ subst (λ k. covers_at kind slots k address ≡ true) e yes))
     ];
   }
 
   -- with one more that covers the address and is shorter
-  best_with_shorter : (routes : RoutesOf P) (places more : ℕ → Type 0) (address q number : ℕ) → ((k : ℕ) → more k → places k ⊎ (k ≡ q))
-      → length_at kind routes q < length_of kind routes number → IsBestOf kind routes places address number → IsBestOf kind routes more address number
-  best_with_shorter routes places more address q zero each shorter best = absurd (omega (arith, shorter))
-  best_with_shorter routes places more address q (suc place) each shorter best = record {
+  best_with_shorter : (slots : SlotsOf P) (places more : ℕ → Type 0) (address q number : ℕ) → ((k : ℕ) → more k → places k ⊎ (k ≡ q))
+      → length_at kind slots q < length_of kind slots number → IsBestOf kind slots places address number → IsBestOf kind slots more address number
+  best_with_shorter slots places more address q zero each shorter best = absurd (omega (arith, shorter))
+  best_with_shorter slots places more address q (suc place) each shorter best = record {
     within = best.within;
     covers = best.covers;
     longest = λ k within here yes. elim (each k here) [
       | inl there ↦ best.longest k within there yes
-      | inr e ↦ subst (λ k. length_at kind routes k ≤ length_at kind routes place) (sym e) (omega (arith, shorter))
+      | inr e ↦ subst (λ k. length_at kind slots k ≤ length_at kind slots place) (sym e) (omega (arith, shorter))
     ];
   }
 
   -- no place that covers the address is longer than its best number
-  none_longer : (routes : RoutesOf P) (places : ℕ → Type 0) (address number k : ℕ) → IsBestOf kind routes places address number
-      → k < length routes → places k → covers_at kind routes k address ≡ true → length_at kind routes k ≤ length_of kind routes number
-  none_longer routes places address zero k best within here on = absurd (false≢true (sym (best k within here) ∙ on))
-  none_longer routes places address (suc place) k best within here on = best.longest k within here on
+  none_longer : (slots : SlotsOf P) (places : ℕ → Type 0) (address number k : ℕ) → IsBestOf kind slots places address number
+      → k < length slots → places k → covers_at kind slots k address ≡ true → length_at kind slots k ≤ length_of kind slots number
+  none_longer slots places address zero k best within here on = absurd (false≢true (sym (best k within here) ∙ on))
+  none_longer slots places address (suc place) k best within here on = best.longest k within here on
 
   -- with one more that covers the address and is not shorter
-  best_with_longer : (routes : RoutesOf P) (places more : ℕ → Type 0) (address q number : ℕ) → ((k : ℕ) → more k → places k ⊎ (k ≡ q))
-      → q < length routes → covers_at kind routes q address ≡ true → length_of kind routes number ≤ length_at kind routes q
-      → IsBestOf kind routes places address number → IsBestOf kind routes more address (suc q)
-  best_with_longer routes places more address q number each inside on longer best = record {
+  best_with_longer : (slots : SlotsOf P) (places more : ℕ → Type 0) (address q number : ℕ) → ((k : ℕ) → more k → places k ⊎ (k ≡ q))
+      → q < length slots → covers_at kind slots q address ≡ true → length_of kind slots number ≤ length_at kind slots q
+      → IsBestOf kind slots places address number → IsBestOf kind slots more address (suc q)
+  best_with_longer slots places more address q number each inside on longer best = record {
     within = inside;
     covers = on;
     longest = λ k within here yes. elim (each k here) [
-      | inl there ↦ omega (arith, none_longer routes places address number k best within there yes, longer)
-      | inr e ↦ subst (λ k. length_at kind routes k ≤ length_at kind routes q) (sym e) (omega arith)
+      | inl there ↦ omega (arith, none_longer slots places address number k best within there yes, longer)
+      | inr e ↦ subst (λ k. length_at kind slots k ≤ length_at kind slots q) (sym e) (omega arith)
     ];
   }
 
   -- the best number among places, with one more
-  pub best_with : (routes : RoutesOf P) (places more : ℕ → Type 0) (address q number : ℕ) → ((k : ℕ) → more k → places k ⊎ (k ≡ q))
-      → q < length routes → IsBestOf kind routes places address number
-      → IsBestOf kind routes more address (if covers_at kind routes q address then longer_of kind routes (suc q) number else number)
-  best_with routes places more address q number each inside best =
-      elim (covers_at kind routes q address) as (λ b. covers_at kind routes q address ≡ b
-      → IsBestOf kind routes more address (if b then longer_of kind routes (suc q) number else number)) [
-        | true ↦ λ on. elim (nat_lt (length_at kind routes q) (length_of kind routes number)) as (λ b. nat_lt (length_at kind routes q) (length_of kind routes number) ≡ b
-            → IsBestOf kind routes more address (if b then number else suc q)) [
-              | true ↦ λ is. best_with_shorter routes places more address q number each (ltb-true _ _ is) best
-              | false ↦ λ is. best_with_longer routes places more address q number each inside on (ltb-false _ _ is) best
+  pub best_with : (slots : SlotsOf P) (places more : ℕ → Type 0) (address q number : ℕ) → ((k : ℕ) → more k → places k ⊎ (k ≡ q))
+      → q < length slots → IsBestOf kind slots places address number
+      → IsBestOf kind slots more address (if covers_at kind slots q address then longer_of kind slots (suc q) number else number)
+  best_with slots places more address q number each inside best =
+      elim (covers_at kind slots q address) as (λ b. covers_at kind slots q address ≡ b
+      → IsBestOf kind slots more address (if b then longer_of kind slots (suc q) number else number)) [
+        | true ↦ λ on. elim (nat_lt (length_at kind slots q) (length_of kind slots number)) as (λ b. nat_lt (length_at kind slots q) (length_of kind slots number) ≡ b
+            → IsBestOf kind slots more address (if b then number else suc q)) [
+              | true ↦ λ is. best_with_shorter slots places more address q number each (ltb-true _ _ is) best
+              | false ↦ λ is. best_with_longer slots places more address q number each inside on (ltb-false _ _ is) best
             ] refl
-        | false ↦ λ off. best_with_other routes places more address q number each off best
+        | false ↦ λ off. best_with_other slots places more address q number each off best
       ] refl
 
+  -- what holds of the route in each slot holds of each route
+  all_in : (Q : P × RouteTo → Type 0) (slots : SlotsOf P) → ((k : ℕ) (route : P × RouteTo) → slot_at slots k ≡ Some route → Q route)
+      → AllByRecursion Q (routes_in slots)
+  all_in Q [] each = tt
+  all_in Q (None ∷ slots) each = all_in Q slots (λ k. each (suc k))
+  all_in Q (Some route ∷ slots) each = (each 0 route refl, all_in Q slots (λ k. each (suc k)))
+
+  -- the route in a slot is one of the routes
+  in_routes : (slots : SlotsOf P) (k : ℕ) (route : P × RouteTo) → slot_at slots k ≡ Some route → Contains (routes_in slots) route
+  in_routes [] k route is = absurd (let bad : ⊥ = cc in bad)
+  in_routes (None ∷ slots) zero route is = absurd (let bad : ⊥ = cc in bad)
+  in_routes (None ∷ slots) (suc k) route is = in_routes slots k route is
+  in_routes (Some first ∷ slots) zero route is = (0, omega arith, (cc))
+  in_routes (Some first ∷ slots) (suc k) route is = let there = in_routes slots k route is in (suc there.0, omega (arith, there.1), there.2)
+
+  -- a slot that covers an address is within the slots
+  pub within_slots : (slots : SlotsOf P) (k address : ℕ) → covers_at kind slots k address ≡ true → k < length slots
+  within_slots slots k address on = elim (cases_lt k (length slots)) [
+    | inl within ↦ within
+    | inr past ↦ absurd (false≢true (sym (ap (λ slot. covers_if kind slot address) (get_or_past slots k None past)) ∙ on))
+  ]
+
+  -- a route covers an address by its slot
+  covered_there : (slots : SlotsOf P) (k address : ℕ) (route : P × RouteTo) → slot_at slots k ≡ Some route → covers_at kind slots k address ≡ covering kind address route
+  covered_there slots k address route is = ap (λ slot. covers_if kind slot address) is
+
+  -- where the slot at a place covers an address a route stands there
+  stands_there : (slot : Option (P × RouteTo)) (address : ℕ) → covers_if kind slot address ≡ true → (route : P × RouteTo) × (slot ≡ Some route)
+  stands_there None address on = absurd (false≢true on)
+  stands_there (Some route) address on = (route, refl)
+
   -- the best number among all routes is that of the best route
-  pub best_is_route : (routes : RoutesOf P) (address number : ℕ) → HasOneEach kind routes
-      → IsBestOf kind routes (λ k. k < length routes) address number → target_of routes number ≡ best_of kind routes address
-  best_is_route routes address zero distinct best =
-      sym (no_answer are routes address (λ k e within yes.
-      false≢true (sym (best k within within) ∙ (covers_there routes k address e within ∙ yes))))
-  best_is_route routes address (suc place) distinct best =
-      let route : P × RouteTo = get_or routes place any_route in
-      ap (option_map (λ r. r.1)) (slice_get-get_or routes place any_route best.within)
-      ∙ sym (longest_match_is_best are routes address route distinct (record {
-        inside = Contains-get_or routes place any_route best.within;
-        covers = sym (covers_there routes place address any_route best.within) ∙ best.covers;
-        longest = λ k e within yes.
-            let less : length_at kind routes k ≤ length_at kind routes place = best.longest k within within (covers_there routes k address e within ∙ yes) in
-            let here : length_at kind routes k ≡ kind.len (get_or routes k e).0 = length_there routes k e within in
-            let there : length_at kind routes place ≡ kind.len route.0 = length_there routes place any_route best.within in
-            omega (arith, less, here, there);
+  pub best_is_route : (slots : SlotsOf P) (address number : ℕ) → HasOneEach kind (routes_in slots)
+      → IsBestOf kind slots (λ k. k < length slots) address number → target_of slots number ≡ best_of kind (routes_in slots) address
+  best_is_route slots address zero distinct best =
+      sym (no_answer are (routes_in slots) address (All-from_recursion (IsElsewhere kind address) (routes_in slots) (all_in (IsElsewhere kind address) slots (λ k route is yes.
+      let on : covers_at kind slots k address ≡ true = covered_there slots k address route is ∙ yes in
+      false≢true (sym (best k (within_slots slots k address on) (within_slots slots k address on)) ∙ on)))))
+  best_is_route slots address (suc place) distinct best =
+      let there = stands_there (slot_at slots place) address best.covers in
+      let route = there.0 in
+      ap (option_map (λ r. r.1)) there.1
+      ∙ sym (longest_match_is_best are (routes_in slots) address route distinct (record {
+        inside = in_routes slots place route there.1;
+        covers = sym (covered_there slots place address route there.1) ∙ best.covers;
+        longest = All-from_recursion (IsAtMost kind address (kind.len route.0)) (routes_in slots) (all_in (IsAtMost kind address (kind.len route.0)) slots (λ k other is yes.
+            let on : covers_at kind slots k address ≡ true = covered_there slots k address other is ∙ yes in
+            let less : length_at kind slots k ≤ length_at kind slots place = best.longest k (within_slots slots k address on) (within_slots slots k address on) on in
+            omega (arith, less, ap (length_if kind) is, ap (length_if kind) there.1)));
       }))
 
-  -- a best number is within the routes
-  pub best_within : (routes : RoutesOf P) (places : ℕ → Type 0) (address number : ℕ) → IsBestOf kind routes places address number → number ≤ length routes
-  best_within routes places address zero best = omega arith
-  best_within routes places address (suc place) best = omega (arith, best.within)
+  -- a best number is within the slots
+  pub best_within : (slots : SlotsOf P) (places : ℕ → Type 0) (address number : ℕ) → IsBestOf kind slots places address number → number ≤ length slots
+  best_within slots places address zero best = omega arith
+  best_within slots places address (suc place) best = omega (arith, best.within)
 
-  -- routes that begin with the same prefixes have the same best numbers among these
-  pub best_renewed : (routes first : RoutesOf P) (address number : ℕ) → BeginsWith routes first
-      → IsBestOf kind first (λ k. k < length first) address number → IsBestOf kind routes (λ k. k < length first) address number
-  best_renewed routes first address zero begins best = λ k within here.
-      let same : (get_or first k any_route).0 ≡ (get_or routes k any_route).0 = begins.same k any_route here in
-      covers_there routes k address any_route within
-      ∙ (ap (λ p. covers_of kind p address) (sym same) ∙ (sym (covers_there first k address any_route here) ∙ best k here here))
-  best_renewed routes first address (suc place) begins best =
-      let all : (k : ℕ) → k < length first → k < length routes = λ k here. omega (arith, begins.few) in
-      let covers : (k : ℕ) → k < length first → covers_at kind routes k address ≡ covers_at kind first k address = λ k here.
-      covers_there routes k address any_route (all k here)
-      ∙ (ap (λ p. covers_of kind p address) (sym (begins.same k any_route here)) ∙ sym (covers_there first k address any_route here)) in
-      let long : (k : ℕ) → k < length first → length_at kind routes k ≡ length_at kind first k = λ k here.
-      length_there routes k any_route (all k here)
-      ∙ (ap kind.len (sym (begins.same k any_route here)) ∙ sym (length_there first k any_route here)) in
-      record {
-        within = all place best.within;
-        covers = covers place best.within ∙ best.covers;
-        longest = λ k within here yes. omega (arith, best.longest k here here (sym (covers k here) ∙ yes), long k here, long place best.within);
-      }
+  -- slots that begin with the same prefixes have the same best numbers among these
+  pub best_moved : (slots others : SlotsOf P) (address number : ℕ) → length slots ≤ length others → ((k : ℕ) → k < length slots → HasSame kind slots others address k)
+      → IsBestOf kind slots (λ k. k < length slots) address number → IsBestOf kind others (λ k. k < length slots) address number
+  best_moved slots others address zero few same best = λ k within here. (same k here).covers ∙ best k here here
+  best_moved slots others address (suc place) few same best = record {
+    within = omega (arith, best.within, few);
+    covers = (same place best.within).covers ∙ best.covers;
+    longest = λ k within here yes.
+        omega (arith, best.longest k here here (sym (same k here).covers ∙ yes), (same k here).long, (same place best.within).long);
+  }
 
   -- an address's number after one turn
-  pub number_after_turn : (routes : RoutesOf P) (known turn q address number new : ℕ) (order : List ℕ) (route : P × RouteTo)
-      → get_or order turn 0 ≡ q → q < length routes → slice_get routes q ≡ Some route
-      → IsBestOf kind routes (ArePut known order turn) address number
-      → new ≡ (if covers_of kind route.0 address then longer_of kind routes (q + 1) number else number)
-      → IsBestOf kind routes (ArePut known order (turn + 1)) address new
-  number_after_turn routes known turn q address number new order route at inside here best is =
+  pub number_after_turn : (slots : SlotsOf P) (known turn q address number new : ℕ) (order : List ℕ) → get_or order turn 0 ≡ q → q < length slots
+      → IsBestOf kind slots (ArePut known order turn) address number
+      → new ≡ (if covers_at kind slots q address then longer_of kind slots (q + 1) number else number)
+      → IsBestOf kind slots (ArePut known order (turn + 1)) address new
+  number_after_turn slots known turn q address number new order at inside best is =
       let next : q + 1 ≡ suc q = omega arith in
-      let covers : covers_at kind routes q address ≡ covers_of kind route.0 address = ap (λ o. covers_if kind o address) here in
-      let whole : (if covers_at kind routes q address then longer_of kind routes (suc q) number else number) ≡ new =
-      ap (λ b. if b then longer_of kind routes (suc q) number else number) covers
-      ∙ (ap (λ m. if covers_of kind route.0 address then longer_of kind routes m number else number) (sym next) ∙ sym is) in
-      subst (IsBestOf kind routes (ArePut known order (turn + 1)) address) whole
-      (best_with routes (ArePut known order turn) (ArePut known order (turn + 1)) address q number (λ k. put_next known order turn q k at) inside best)
+      let whole : (if covers_at kind slots q address then longer_of kind slots (suc q) number else number) ≡ new =
+      ap (λ m. if covers_at kind slots q address then longer_of kind slots m number else number) (sym next) ∙ sym is in
+      subst (IsBestOf kind slots (ArePut known order (turn + 1)) address) whole
+      (best_with slots (ArePut known order turn) (ArePut known order (turn + 1)) address q number (λ k. put_next known order turn q k at) inside best)
 
   -- no address's number is any where no route is put
   pub nothing_best : (places : ℕ → Type 0) (address number : ℕ) → number ≡ 0 → IsBestOf kind [] places address number
   nothing_best places address number none = subst (IsBestOf kind [] places address) (sym none) (λ k within. absurd (omega (arith, within)))
 
-  -- the target that stands before a number
-  pub read_target : (routes : RoutesOf P) (number : ℕ) (x : P × RouteTo) → number ≢ 0 → number ≤ length routes → x ≡ get_or routes (number - 1) x
-      → target_of routes number ≡ Some x.1
-  read_target routes zero x some few is = absurd (some refl)
-  read_target routes (suc place) x some few is =
+  -- what stands in the slot before a number
+  pub read_slot : (slots : SlotsOf P) (number : ℕ) (x : Option (P × RouteTo)) → number ≢ 0 → number ≤ length slots → x ≡ get_or slots (number - 1) x
+      → target_of slots number ≡ option_map (λ r. r.1) x
+  read_slot slots zero x some few is = absurd (some refl)
+  read_slot slots (suc place) x some few is =
       let before : suc place - 1 ≡ place = omega arith in
-      ap (option_map (λ r. r.1)) (slice_get_read routes (length routes) place x refl (omega (arith, few)) (subst (λ k. x ≡ get_or routes k x) before is))
-
--- levels that have the routes of a list have those of one that begins with the same prefixes
-pub has_renewed : (routes first : Routes) (known : ℕ) (levels : Levels) → known ≡ length first → BeginsWith routes first
-    → HasFirst first (length first) levels → HasFirst routes known levels
-has_renewed routes first known levels is begins has =
-    subst (λ known. HasFirst routes known levels) (sym is) (record {
-      shape = has.shape;
-      numbers = λ address bound. best_renewed are4 routes first address (number_at levels address) begins (has.numbers address bound);
-      second_few = has.second_few;
-      third_few = has.third_few;
-    })
-
--- levels with no route
-pub nothing_put : (routes : Routes) (levels : Levels) → routes ≡ [] → IsLevels levels → ((address : ℕ) → number_at levels address ≡ 0)
-    → levels.second.items ≡ [] → levels.third.items ≡ [] → IsTrie routes levels
-nothing_put routes levels none shape numbers second third =
-    subst (λ routes. IsTrie routes levels) (sym none) (record {
-      table = empty_table are4;
-      has = record {
-        shape = shape;
-        numbers = λ address bound. nothing_best are4 (λ k. k < 0) address (number_at levels address) (numbers address);
-        second_few = omega (arith, ap length second);
-        third_few = omega (arith, ap length third);
-      };
-    })
+      let read : x ≡ get_or slots place x = subst (λ k. x ≡ get_or slots k x) before is in
+      ap (option_map (λ r. r.1)) (get_or_default slots place None x (omega (arith, few)) ∙ sym read)

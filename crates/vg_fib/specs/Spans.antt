@@ -1,9 +1,9 @@
 -- Spans of addresses that have one best route each, side by side.
-use Rattle.std.specs.Prelude.{ℕ, ◌≡◌, ◌+◌, ◌-◌, ◌<◌, ◌≤◌, ◌^◌, List, length, slice_index_or, if◌then◌else◌}
+use Rattle.std.specs.Prelude.{ℕ, Bool, ◌≡◌, ◌+◌, ◌-◌, ◌<◌, ◌≤◌, ◌^◌, List, length, slice_index_or, if◌then◌else◌}
 use Rattle.vg_model.specs.declared.routes.Prefix6.{Prefix6}
 use Rattle.vg_model.specs.Route.{ip6, covers_of}
-use Rattle.vg_fib.specs.Table.{Routes6, IsTable}
-use Rattle.vg_fib.specs.Numbers.{IsBestOf}
+use Rattle.vg_fib.specs.Table.{IsTable}
+use Rattle.vg_fib.specs.Numbers.{SlotsOf, IsBestOf, covers_at, longer_of, routes_in}
 use Rattle.vg_fib.specs.declared.spans.Spans.{Spans}
 
 -- where a span begins
@@ -55,24 +55,32 @@ IsCutAt address place old new = IsCut address place old.starts.items old.numbers
 abbrev pub end_of : Prefix6 → ℕ
 end_of prefix = prefix.addr + 2 ^ (128 - prefix.len)
 
--- the number of an address of a prefix is raised, and no other
-pub record IsRaisedIn (prefix : Prefix6) (f : ℕ → ℕ) (starts numbers : List ℕ) (address new : ℕ) : Type 0 where
+-- an address has the number that it had, or one that is changed
+pub record IsChangedAt (inside : ℕ → Bool) (f : ℕ → ℕ) (starts numbers : List ℕ) (address new : ℕ) : Type 0 where
   pub old : ℕ
   pub had : HasNumber starts numbers address old
-  pub is : new ≡ (if covers_of ip6 prefix address then f old else old)
+  pub is : new ≡ (if inside address then f old else old)
 
--- the numbers of the addresses of a prefix are raised, and no others
-pub record IsSpread (prefix : Prefix6) (f : ℕ → ℕ) (old new : Spans) : Type 0 where
+-- the numbers of these addresses are changed, and no others
+pub record AreChanged (inside : ℕ → Bool) (f : ℕ → ℕ) (old new : Spans) : Type 0 where
   pub shape : IsSpans new
   pub numbers : (address number : ℕ) → address < 2 ^ 128 → Has new address number
-      → IsRaisedIn prefix f old.starts.items old.numbers.items address number
+      → IsChangedAt inside f old.starts.items old.numbers.items address number
 
--- the first so many routes are put into these spans: each address has its best number among them
-pub record HasFirst6 (routes : Routes6) (known : ℕ) (spans : Spans) : Type 0 where
+-- those of the addresses of a prefix
+abbrev pub IsSpread : Prefix6 → (ℕ → ℕ) → Spans → Spans → Type 0
+IsSpread prefix f old new = AreChanged (covers_of ip6 prefix) f old new
+
+-- those of the addresses of the route in a slot, if there is one, have its number, unless a longer one covers them
+abbrev pub IsSpreadAt : SlotsOf Prefix6 → ℕ → Spans → Spans → Type 0
+IsSpreadAt slots place old new = AreChanged (covers_at ip6 slots place) (longer_of ip6 slots (place + 1)) old new
+
+-- the routes of the first so many slots are put into these spans: each address has its best number among them
+pub record HasFirst6 (slots : SlotsOf Prefix6) (known : ℕ) (spans : Spans) : Type 0 where
   pub shape : IsSpans spans
-  pub numbers : (address number : ℕ) → address < 2 ^ 128 → Has spans address number → IsBestOf ip6 routes (λ k. k < known) address number
+  pub numbers : (address number : ℕ) → address < 2 ^ 128 → Has spans address number → IsBestOf ip6 slots (λ k. k < known) address number
 
 -- all routes are put into these spans, and are a table's
-pub record AreRoutesOf (routes : Routes6) (spans : Spans) : Type 0 where
-  pub table : IsTable ip6 routes
-  pub has : HasFirst6 routes (length routes) spans
+pub record AreRoutesOf (slots : SlotsOf Prefix6) (spans : Spans) : Type 0 where
+  pub table : IsTable ip6 (routes_in slots)
+  pub has : HasFirst6 slots (length slots) spans

@@ -1,12 +1,12 @@
 -- The trie of routes (strides of 16, 8 and 8 bits).
-use Rattle.std.specs.Prelude.{ℕ, ◌≡◌, ◌+◌, ◌*◌, ◌/◌, ◌%◌, ◌^◌, ◌<◌, ◌≤◌, List, length, slice_index_or, if◌then◌else◌}
+use Rattle.std.specs.Prelude.{ℕ, Bool, ◌≡◌, ◌+◌, ◌*◌, ◌/◌, ◌%◌, ◌^◌, ◌<◌, ◌≤◌, List, length, slice_index_or, if◌then◌else◌}
 use Rattle.vg_model.specs.declared.routes.Prefix.{Prefix}
 use Rattle.vg_model.specs.Route.{ip4, covers_of}
-use Rattle.vg_fib.specs.Table.{Routes, IsTable}
+use Rattle.vg_fib.specs.Table.{IsTable}
 use Rattle.vg_fib.specs.declared.trie.Entry.{Entry}
 use Rattle.vg_fib.specs.declared.trie.Entry.TheVariants.{Leaf, Child}
 use Rattle.vg_fib.specs.declared.trie.Levels.{Levels}
-use Rattle.vg_fib.specs.Numbers.{IsBestOf}
+use Rattle.vg_fib.specs.Numbers.{SlotsOf, IsBestOf, covers_at, longer_of, routes_in}
 
 -- the number that an entry of the second level gives to an address
 abbrev pub number_in : List ℕ → Entry → ℕ → ℕ
@@ -81,13 +81,21 @@ abbrev pub IsRaisedFirst : (ℕ → ℕ) → ℕ → ℕ → Levels → Levels �
 IsRaisedFirst f from count old new =
     AreRaised f from count old.first.items old.second.items old.third.items new.first.items new.second.items new.third.items
 
--- the numbers of the addresses of a prefix are raised, and no others; a prefix makes at most one child of each level
-pub record IsPut (prefix : Prefix) (f : ℕ → ℕ) (old new : Levels) : Type 0 where
+-- the numbers of these addresses are changed, and no others; at most one child of each level is made
+pub record IsChanged (inside : ℕ → Bool) (f : ℕ → ℕ) (old new : Levels) : Type 0 where
   pub shape : IsLevels new
   pub numbers : (address : ℕ) → address < 2 ^ 32
-      → number_at new address ≡ (if covers_of ip4 prefix address then f (number_at old address) else number_at old address)
+      → number_at new address ≡ (if inside address then f (number_at old address) else number_at old address)
   pub second_grows : length new.second.items ≤ length old.second.items + 256
   pub third_grows : length new.third.items ≤ length old.third.items + 256
+
+-- those of the addresses of a prefix
+abbrev pub IsPut : Prefix → (ℕ → ℕ) → Levels → Levels → Type 0
+IsPut prefix f old new = IsChanged (covers_of ip4 prefix) f old new
+
+-- those of the addresses of the route in a slot, if there is one, have its number, unless a longer one covers them
+abbrev pub IsPutAt : SlotsOf Prefix → ℕ → Levels → Levels → Type 0
+IsPutAt slots place old new = IsChanged (covers_at ip4 slots place) (longer_of ip4 slots (place + 1)) old new
 
 -- a place of the first level has this child, and no address's number changed
 pub record GivesFirstChild (place child : ℕ) (old new : Levels) : Type 0 where
@@ -106,14 +114,17 @@ pub record GivesSecondChild (place child : ℕ) (old new : Levels) : Type 0 wher
   pub first : new.first.items ≡ old.first.items
   pub second : length new.second.items ≡ length old.second.items
 
--- the first so many routes are put into these levels: each address has its best number among them
-pub record HasFirst (routes : Routes) (known : ℕ) (levels : Levels) : Type 0 where
+-- so many more children of each level have a number of 16 bits
+pub record HasRoom (more : ℕ) (levels : Levels) : Type 0 where
+  pub second : length levels.second.items + 256 * more ≤ 65536 * 256
+  pub third : length levels.third.items + 256 * more ≤ 65536 * 256
+
+-- the routes of the first so many slots are put into these levels: each address has its best number among them
+pub record HasFirst (slots : SlotsOf Prefix) (known : ℕ) (levels : Levels) : Type 0 where
   pub shape : IsLevels levels
-  pub numbers : (address : ℕ) → address < 2 ^ 32 → IsBestOf ip4 routes (λ k. k < known) address (number_at levels address)
-  pub second_few : length levels.second.items ≤ 256 * known
-  pub third_few : length levels.third.items ≤ 256 * known
+  pub numbers : (address : ℕ) → address < 2 ^ 32 → IsBestOf ip4 slots (λ k. k < known) address (number_at levels address)
 
 -- all routes are put into these levels, and are a table's
-pub record IsTrie (routes : Routes) (levels : Levels) : Type 0 where
-  pub table : IsTable ip4 routes
-  pub has : HasFirst routes (length routes) levels
+pub record IsTrie (slots : SlotsOf Prefix) (levels : Levels) : Type 0 where
+  pub table : IsTable ip4 (routes_in slots)
+  pub has : HasFirst slots (length slots) levels

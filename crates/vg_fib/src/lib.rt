@@ -8,27 +8,29 @@
 //! [`Mtrie`] takes at most three steps: by the first 16 bits of an address, then by the next 8, then by the last 8, as the mtrie of VPP's
 //! IPv4 FIB. A step to 8 bits more is there only where some prefix is longer than the bits so far.
 //!
-//! An entry of the first two levels takes 4 bytes, one of the third 2, a route 44, and a child has 256 entries.
+//! An entry of the first two levels takes 4 bytes, one of the third 2, the slot of a route 48, and a child has 256 entries.
 //! The most that 4,096 routes of 32 bits take is where no two of them have their first 16 bits in common:
-//! 65,536 * 4 + 4,096 * 256 * 4 + 4,096 * 256 * 2 + 4,096 * 44 = 6,733,824 bytes. Where 4,096 such routes in as
-//! many prefixes of 24 bits share 16 of 16 bits, it is 65,536 * 4 + 16 * 256 * 4 + 4,096 * 256 * 2 + 4,096 * 44
-//! = 2,555,904 bytes. Two tries, those before and after a change, so take less than 14 million bytes. An entry names a
-//! route by its number, so it stays as small where a target grows.
+//! 65,536 * 4 + 4,096 * 256 * 4 + 4,096 * 256 * 2 + 4,096 * 48 = 6,750,208 bytes. Where 4,096 such routes in as
+//! many prefixes of 24 bits share 16 of 16 bits, it is 65,536 * 4 + 16 * 256 * 4 + 4,096 * 256 * 2 + 4,096 * 48
+//! = 2,572,288 bytes. Slots and children that removed routes leave are at most as many again, so two tries, those before and
+//! after a change, take less than 27 million bytes. An entry names a route by its number, so it stays as small where a target
+//! grows.
 //!
 //! [`Spans6`] are spans of addresses side by side, in each of which one route is best: 4,096 routes make at most 8,193 of them, of 18 bytes
-//! each. A trie of 128 bits would take up to 15 steps and, for as many routes of 128 bits, 4,096 * 14 * 256 entries. The span of an
+//! each, and removed routes leave at most as many again. A trie of 128 bits would take up to 15 steps and, for as many routes of 128 bits, 4,096 * 14 * 256 entries. The span of an
 //! address is searched by where spans begin: 16 places at once, then 15 between two of them, 15 again, and one. These looks don't hang
 //! on one another, so the processor makes them side by side, and a look-up costs as much whatever the prefixes are and however they nest.
 //!
-//! [`Mtrie::renewed`] and [`Spans6::renewed`] bring them up to date with their table in place: all known prefixes are compared, all routes
-//! are copied from the table, and a new prefix costs the places, or the spans, that it covers. They take their value, so nobody looks up
-//! in it meanwhile. [`Mtrie::target`] and [`Spans6::target`] only read, so the workers of one generation can share both behind a
-//! reference.
+//! [`Mtrie::renewed`] and [`Spans6::renewed`] bring them up to date with their table in place: they go over all routes of the table, and
+//! a new prefix, or a removed one, costs the places, or the spans, that it covers. For a removed one they look at each slot once more. They
+//! take their value, so nobody looks up in it meanwhile. [`Mtrie::target`] and [`Spans6::target`] only read, so the workers of one
+//! generation can share both behind a reference.
 //!
 //! In which order to read: `table`, `trie`; then `table6`, `spans`, and `laws`.
 #![tactic(auto)]
 
 pub mod laws;
+mod numbers;
 mod spans;
 mod table;
 mod table6;

@@ -1,18 +1,19 @@
 //! Spans of IPv6 addresses, for look-ups in the packet path.
-ghost use Rattle.std.specs.Prelude.{◌≡◌, ℕ, true, ◌-◌, ◌<◌, ◌≤◌, ◌^◌, IfOk, MatchOption, ◌∷◌, [], length};
+ghost use Rattle.std.specs.Prelude.{◌≡◌, ◌↔◌, IsTrue, ℕ, true, ◌+◌, ◌-◌, ◌<◌, ◌≤◌, ◌^◌, IfOk, IfSome, MatchOption, None, ◌∷◌, [], length, set};
 ghost use Rattle.std.specs.Option.{option_copied};
 ghost use Rattle.vg_model.specs.Route.{best_route6, ip6};
-ghost use Rattle.vg_model.specs.Edit.{most_routes};
-ghost use Rattle.vg_fib.specs.Order.{IsOrder, ranks};
-ghost use Rattle.vg_fib.specs.Numbers.{BeginsWith, length_of, longer_of};
+ghost use Rattle.vg_fib.specs.Numbers.{AreFirstOf, HasPrefix, IsHeir, changed_by, covers_at, length_at, length_of, longer_of, most_slots};
 ghost use Rattle.vg_fib.specs.Trie.{IsRaised};
-ghost use Rattle.vg_fib.specs.Spans.{AreRising, HasFirst6, IsCutAt, IsLast, IsSpans, IsSpread, end_of, start_of};
+ghost use Rattle.vg_fib.specs.Spans.{AreRising, HasFirst6, IsCutAt, IsLast, IsSpans, IsSpread, IsSpreadAt, end_of, start_of};
 
-use crate::table::overwrite;
-use crate::table6::Fib6;
+use crate::numbers::{Change, MOST_REMOVED, MOST_SLOTS, add_slots};
+use crate::table6::{Fib6, covers, know_few};
 use std::alloc::{AllocError, Global};
 use std::marker::Model;
 use vg_model::{Memory, Prefix6, RouteTo};
+
+// What stands at a place: a route, or nothing where it was removed.
+type Slot = Option<(Prefix6, RouteTo)>;
 
 // Spans of addresses, side by side: all addresses of a span have the same best route.
 #[derive(Drop)]
@@ -48,25 +49,84 @@ impl Spans {
         Ok(Spans { starts, numbers })
     }
 
-    // Puts the routes from this place on in, where those before it are in. A route's number is its place and one more,
-    // and 0 is no route. They are put in the order of their prefixes, so that few spans lie behind one that is cut.
-    fn put_from(
-        &mut self,
-        routes: &[(Prefix6, RouteTo)],
-        order: &[u16],
-        known: usize,
-    ) -> Result<(), AllocError>
-        requires few { length routes.now ≤ most_routes }
-        requires order { IsOrder (ranks ip6 routes.now) order.now }
-        requires known { known ≤ length routes.now }
-        requires has { HasFirst6 routes.now known self.old }
-        ensures { IfOk result (λ _. HasFirst6 routes.now (length routes.now) self.new) }
+    // Puts the routes of a table from this place on in, which stand in the last slots; those before are in. They are put in the order
+    // of their prefixes, so that few spans lie behind one that is cut.
+    fn put_from(&mut self, slots: &[Slot], fib: &Fib6, known: usize) -> Result<(), AllocError>
+        requires few { length slots.now ≤ most_slots }
+        requires all { length fib.now ≤ length slots.now }
+        requires has { HasFirst6 slots.now (length slots.now - length fib.now + known) self.old }
+        ensures { IfOk result (λ _. HasFirst6 slots.now (length slots.now) self.new) }
     {
-        for place in order {
-            if usize::from(*place) >= known {
-                self.put(routes, routes[usize::from(*place)].0, *place + 1)?;
+        let empty = slots.len() - fib.routes().len();
+        for place in fib.order() {
+            let place = usize::from(*place);
+            if place >= known {
+                self.put_at(slots, empty + place)?;
             }
         }
+        Ok(())
+    }
+
+    // Puts the route of a slot in, if there is one.
+    fn put_at(&mut self, slots: &[Slot], place: usize) -> Result<(), AllocError>
+        requires few { length slots.now ≤ most_slots }
+        requires place { place < length slots.now }
+        requires shape { IsSpans self.old }
+        ensures { IfOk result (λ _. IsSpreadAt slots.now place self.old self.new) }
+    {
+        if let Some(route) = slots[place] {
+            self.put(slots, route.0, Change::Comes(place as u16 + 1))?;
+        }
+        Ok(())
+    }
+
+    // Makes the slots those of the first routes of a table, as many as they are: a route that the table doesn't have at its turn is
+    // taken out, and the others get the table's targets. `None` where too many would have to be taken out.
+    fn follow(
+        &mut self,
+        slots: &mut Vec<Slot>,
+        routes: &[(Prefix6, RouteTo)],
+    ) -> Result<Option<usize>, AllocError>
+        requires few { length slots.old.items ≤ most_slots }
+        requires has { HasFirst6 slots.old.items (length slots.old.items) self.old }
+        ensures first { IfOk result (λ answer. IfSome answer (λ known. AreFirstOf routes.now known slots.new.items)) }
+        ensures has { IfOk result (λ answer. IfSome answer (λ _. HasFirst6 slots.new.items (length slots.new.items) self.new)) }
+    {
+        let mut known = 0;
+        let mut removed = 0;
+        for place in 0..slots.len() {
+            if let Some((prefix, _)) = slots[place] {
+                if let Some(route) = routes.get(known) && route.0 == prefix {
+                    slots[place] = Some(*route);
+                    known += 1;
+                } else if removed < MOST_REMOVED {
+                    self.take_out(slots, place, prefix)?;
+                    removed += 1;
+                } else {
+                    return Ok(None);
+                }
+            }
+        }
+        Ok(Some(known))
+    }
+
+    // Takes a route out: its slot is empty, and the next shorter prefix takes its addresses over.
+    fn take_out(
+        &mut self,
+        slots: &mut Vec<Slot>,
+        place: usize,
+        prefix: Prefix6,
+    ) -> Result<(), AllocError>
+        requires few { length slots.old.items ≤ most_slots }
+        requires stands { HasPrefix slots.old.items place prefix }
+        requires has { HasFirst6 slots.old.items (length slots.old.items) self.old }
+        ensures empty { IfOk result (λ _. slots.new.items ≡ set slots.old.items place None) }
+        ensures has { IfOk result (λ _. HasFirst6 slots.new.items (length slots.new.items) self.new) }
+    {
+        slots[place] = None;
+        let gone = place as u16 + 1;
+        let heir = heir(slots.as_slice(), prefix);
+        self.put(slots.as_slice(), prefix, Change::Goes { gone, heir })?;
         Ok(())
     }
 
@@ -98,22 +158,22 @@ impl Spans {
         Ok(place + 1)
     }
 
-    // Gives the addresses of a prefix the number of its route, but for those that have a longer route.
+    // Changes the numbers of the addresses of a prefix.
     fn put(
         &mut self,
-        routes: &[(Prefix6, RouteTo)],
+        slots: &[Slot],
         prefix: Prefix6,
-        number: u16,
+        change: Change,
     ) -> Result<(), AllocError>
         requires { IsSpans self.old }
-        ensures { IfOk result (λ _. IsSpread prefix (longer_of ip6 routes.now number) self.old self.new) }
+        ensures { IfOk result (λ _. IsSpread prefix (changed_by ip6 slots.now change) self.old self.new) }
     {
         let from = self.cut(prefix.addr)?;
         let to = match behind(prefix) {
             Some(address) => self.cut(address)?,
             None => self.starts.len(),
         };
-        raise(&mut self.numbers, routes, number, from, to);
+        raise(&mut self.numbers, slots, change, from, to);
         Ok(())
     }
 }
@@ -123,19 +183,20 @@ impl Spans {
 #[derive(Drop)]
 pub struct Spans6 {
     spans: Spans,
-    // In the order of their table.
-    routes: Vec<(Prefix6, RouteTo)>,
+    // The routes in the order of their table, with empty slots between them.
+    slots: Vec<Slot>,
 }
 
 impl Model for Spans6 {
     ghost use Rattle.vg_fib.specs.Table.{Routes6};
+    ghost use Rattle.vg_fib.specs.Numbers.{routes_in};
     ghost use Rattle.vg_fib.specs.Spans.{AreRoutesOf};
 
     ghost Value = { Routes6 };
 
-    ghost view = { λ spans. spans.routes.items };
+    ghost view = { λ spans. routes_in spans.slots.items };
 
-    ghost invariant = { λ spans. AreRoutesOf spans.routes.items spans.spans };
+    ghost invariant = { λ spans. AreRoutesOf spans.slots.items spans.spans };
 }
 
 impl Spans6 {
@@ -151,8 +212,8 @@ impl Spans6 {
         Spans6::anew(Spans::bare(alloc), Vec::new(alloc), fib).map_err(|_| Memory)
     }
 
-    /// The same as [`Spans6::build`], in the memory of these spans as far as it is enough. Where the prefixes of these spans are
-    /// the first of the table, only what is new is put in; else all is put in again.
+    /// The same as [`Spans6::build`], in the memory of these spans as far as it is enough. Where few routes of these spans are
+    /// removed from the table, these are taken out, and what is new is put in; else all is put in again.
     ///
     /// # Errors
     ///
@@ -161,45 +222,50 @@ impl Spans6 {
         ensures routes { IfOk result (λ spans. spans ≡ fib.now) }
         ensures finds { IfOk result (λ spans. (address : ℕ) → best_route6 spans address ≡ best_route6 fib.now address) }
     {
-        let answer = if begins_with(fib.routes(), self.routes.as_slice()) {
-            self.grown(fib)
-        } else {
-            let Spans6 { spans, routes } = self;
-            Spans6::anew(spans, routes, fib)
-        };
-        answer.map_err(|_| Memory)
+        self.brought_up(fib).map_err(|_| Memory)
     }
 
-    // The spans of a table, in this memory, whatever it says.
-    fn anew(
-        spans: Spans,
-        mut routes: Vec<(Prefix6, RouteTo)>,
-        fib: &Fib6,
-    ) -> Result<Spans6, AllocError>
-        ensures { IfOk result (λ spans. spans ≡ fib.now) }
-    {
-        routes.clear();
-        let nothing = Spans6 {
-            spans: spans.emptied()?,
-            routes,
-        };
-        nothing.grown(fib)
-    }
-
-    // The spans of a table whose first prefixes are those of these: their targets are the table's, and the other
-    // prefixes are put in.
-    fn grown(self, fib: &Fib6) -> Result<Spans6, AllocError>
-        requires { BeginsWith fib.now self }
+    // The same, with want of memory as it comes.
+    fn brought_up(self, fib: &Fib6) -> Result<Spans6, AllocError>
         ensures { IfOk result (λ spans. spans ≡ fib.now) }
     {
         let Spans6 {
             mut spans,
-            mut routes,
+            mut slots,
         } = self;
-        let known = routes.len();
-        overwrite(&mut routes, fib.routes())?;
-        spans.put_from(routes.as_slice(), fib.order(), known)?;
-        Ok(Spans6 { spans, routes })
+        if has_room(slots.len(), spans.starts.len(), 0)
+            && let Some(known) = spans.follow(&mut slots, fib.routes())?
+            && has_room(slots.len(), spans.starts.len(), fib.routes().len() - known)
+        {
+            return Spans6::grown(spans, slots, fib, known);
+        }
+        Spans6::anew(spans, slots, fib)
+    }
+
+    // The spans of a table, in this memory, whatever it says.
+    fn anew(spans: Spans, mut slots: Vec<Slot>, fib: &Fib6) -> Result<Spans6, AllocError>
+        ensures { IfOk result (λ spans. spans ≡ fib.now) }
+    {
+        slots.clear();
+        know_few(fib);
+        Spans6::grown(spans.emptied()?, slots, fib, 0)
+    }
+
+    // The spans of a table, of which so many routes, the first, are in these spans.
+    fn grown(
+        mut spans: Spans,
+        mut slots: Vec<Slot>,
+        fib: &Fib6,
+        known: usize,
+    ) -> Result<Spans6, AllocError>
+        requires first { AreFirstOf fib.now known slots.items }
+        requires few { length slots.items + (length fib.now - known) ≤ most_slots }
+        requires has { HasFirst6 slots.items (length slots.items) spans }
+        ensures { IfOk result (λ spans. spans ≡ fib.now) }
+    {
+        add_slots(&mut slots, &fib.routes()[known..])?;
+        spans.put_from(slots.as_slice(), fib, known)?;
+        Ok(Spans6 { spans, slots })
     }
 
     /// The target of the longest prefix that covers an address, which is in the host's order; `None`
@@ -210,7 +276,10 @@ impl Spans6 {
         let place = self.spans.place(address);
         match self.spans.numbers[place] {
             0 => None,
-            number => Some(&self.routes[number as usize - 1].1),
+            number => match &self.slots[number as usize - 1] {
+                Some(route) => Some(&route.1),
+                None => None,
+            },
         }
     }
 
@@ -220,6 +289,16 @@ impl Spans6 {
     {
         self.target(address).copied()
     }
+}
+
+// Whether so many routes can be put in behind so many slots, into so many spans. A route cuts at most two.
+fn has_room(slots: usize, spans: usize, more: usize) -> bool
+    requires few { more ≤ most_slots }
+    requires slots { slots < 2 ^ 63 }
+    requires spans { spans < 2 ^ 63 }
+    ensures { result ≡ true → slots + more ≤ most_slots }
+{
+    slots + more <= MOST_SLOTS && spans + 2 * more <= 2 * MOST_SLOTS + 1
 }
 
 // Of the places from one on, each a step behind the one before and all before a bound, the last that doesn't begin
@@ -261,52 +340,79 @@ fn behind(prefix: Prefix6) -> Option<u128>
     Some(prefix.addr + count)
 }
 
-// Gives these spans this number, but for those that have a longer route's.
-fn raise(numbers: &mut Vec<u16>, routes: &[(Prefix6, RouteTo)], number: u16, from: usize, to: usize)
+// Changes the numbers of these spans.
+fn raise(numbers: &mut Vec<u16>, slots: &[Slot], change: Change, from: usize, to: usize)
     requires order { from ≤ to }
     requires inside { to ≤ length numbers.old.items }
-    ensures { IsRaised (longer_of ip6 routes.now number) from (to - from) numbers.old.items numbers.new.items }
+    ensures { IsRaised (changed_by ip6 slots.now change) from (to - from) numbers.old.items numbers.new.items }
 {
     for place in from..to {
-        numbers[place] = longer_of(routes, number, numbers[place]);
+        numbers[place] = changed_by(slots, change, numbers[place]);
     }
 }
 
-// Whether these prefixes are the first of the routes, in the same order.
-fn begins_with(routes: &[(Prefix6, RouteTo)], first: &[(Prefix6, RouteTo)]) -> bool
-    ensures { result ≡ true → BeginsWith routes.now first.now }
+// How many bits the prefix at a place has; 0 where no route stands.
+fn length_at(slots: &[Slot], place: usize) -> u8
+    ensures { result ≡ length_at ip6 slots.now place }
 {
-    if first.len() > routes.len() {
-        return false;
+    match slots.get(place) {
+        Some(Some(route)) => route.0.len,
+        _ => 0,
     }
-    for place in 0..first.len() {
-        if routes[place].0 != first[place].0 {
-            return false;
-        }
+}
+
+// Whether a route at a place covers the first address of a prefix, and isn't longer.
+fn is_around(slots: &[Slot], place: usize, prefix: Prefix6) -> bool
+    ensures { IsTrue result ↔ ((length_at ip6 slots.now place ≤ prefix.len) × (covers_at ip6 slots.now place prefix.addr ≡ true)) }
+{
+    match slots.get(place) {
+        Some(Some(route)) => route.0.len <= prefix.len && covers(route.0, prefix.addr),
+        _ => false,
     }
-    true
 }
 
 // How many bits the prefix of a number has; 0 where the number is no route's.
-fn length_of(routes: &[(Prefix6, RouteTo)], number: u16) -> u8
-    ensures { result ≡ length_of ip6 routes.now number }
+fn length_of(slots: &[Slot], number: u16) -> u8
+    ensures { result ≡ length_of ip6 slots.now number }
 {
     match number {
         0 => 0,
-        _ => match routes.get(usize::from(number) - 1) {
-            Some(route) => route.0.len,
-            None => 0,
-        },
+        _ => length_at(slots, usize::from(number) - 1),
     }
 }
 
 // Which of two numbers stands where both routes cover: the new one, unless the old one's prefix is longer.
-fn longer_of(routes: &[(Prefix6, RouteTo)], number: u16, old: u16) -> u16
-    ensures { result ≡ longer_of ip6 routes.now number old }
+fn longer_of(slots: &[Slot], number: u16, old: u16) -> u16
+    ensures { result ≡ longer_of ip6 slots.now number old }
 {
-    if length_of(routes, number) < length_of(routes, old) {
+    if length_of(slots, number) < length_of(slots, old) {
         old
     } else {
         number
     }
+}
+
+// The number that stands after a change where this one stood.
+fn changed_by(slots: &[Slot], change: Change, old: u16) -> u16
+    ensures { result ≡ changed_by ip6 slots.now change old }
+{
+    match change {
+        Change::Comes(number) => longer_of(slots, number, old),
+        Change::Goes { gone, heir } if old == gone => heir,
+        Change::Goes { .. } => old,
+    }
+}
+
+// The number of the longest route around a prefix that has none itself; 0 where there is none.
+fn heir(slots: &[Slot], prefix: Prefix6) -> u16
+    requires { length slots.now ≤ most_slots }
+    ensures { IsHeir ip6 slots.now prefix result }
+{
+    let mut heir = 0;
+    for place in 0..slots.len() {
+        if is_around(slots, place, prefix) {
+            heir = longer_of(slots, place as u16 + 1, heir);
+        }
+    }
+    heir
 }

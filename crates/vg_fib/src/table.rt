@@ -191,6 +191,13 @@ impl Fib {
     }
 }
 
+// What is known of each table.
+pub(crate) fn know_few(fib: &Fib)
+    ensures { length fib.now ≤ most_routes }
+{
+    let _ = fib.routes();
+}
+
 // A number by which prefixes are in order, and no two have the same.
 fn rank(prefix: Prefix) -> u64
     ensures { result ≡ rank_of ip4 prefix }
@@ -268,7 +275,7 @@ pub(crate) fn close_gap(order: &mut [u16], place: u16)
 
 // Whether the bits of a prefix are the first bits of an address. They are shifted as 64 bits, since a prefix
 // of no bits leaves 32 host bits.
-fn covers(prefix: Prefix, address: u32) -> bool
+pub(crate) fn covers(prefix: Prefix, address: u32) -> bool
     ensures { result ≡ covers_address 32 prefix.addr prefix.len address }
 {
     let host_bits = 32 - prefix.len;

@@ -155,6 +155,13 @@ impl Fib6 {
     }
 }
 
+// What is known of each table.
+pub(crate) fn know_few(fib: &Fib6)
+    ensures { length fib.now ≤ most_routes }
+{
+    let _ = fib.routes();
+}
+
 // Whether a prefix comes before another in the order: by its address, then by its length.
 fn comes_before(one: Prefix6, other: Prefix6) -> bool
     ensures { IsTrue result ↔ (rank ip6 one < rank ip6 other) }
@@ -194,7 +201,7 @@ fn place_in_order(
 }
 
 // Whether the bits of a prefix are the first bits of an address.
-fn covers(prefix: Prefix6, address: u128) -> bool
+pub(crate) fn covers(prefix: Prefix6, address: u128) -> bool
     ensures { result ≡ covers_address 128 prefix.addr prefix.len address }
 {
     // A prefix of no bits covers all addresses; 128 bits can't be shifted by 128.

@@ -1,18 +1,21 @@
 //! The trie of IPv4 routes, for look-ups in the packet path.
-ghost use Rattle.std.specs.Prelude.{◌≡◌, ℕ, true, ◌+◌, ◌*◌, ◌<◌, ◌≤◌, ◌^◌, ◌-◌, ◌/◌, ◌%◌, ◌++◌, IfOk, [], length, replicate};
+ghost use Rattle.std.specs.Prelude.{◌≡◌, ◌↔◌, IsTrue, ℕ, true, ◌+◌, ◌*◌, ◌<◌, ◌≤◌, ◌^◌, ◌-◌, ◌/◌, ◌%◌, ◌++◌, IfOk, IfSome, None, [], length, replicate, set};
 ghost use Rattle.std.specs.Option.{option_copied};
 ghost use Rattle.vg_model.specs.Route.{best_route, ip4};
-ghost use Rattle.vg_model.specs.Edit.{most_routes};
-ghost use Rattle.vg_fib.specs.Numbers.{AreFrom, BeginsWith, length_at, length_of, longer_of};
-ghost use Rattle.vg_fib.specs.Trie.{GivesFirstChild, GivesSecondChild, HasChildren, HasFirst, IsLevels, IsPut, IsRaised, IsRaisedFirst, IsRaisedSecond, number_at, Spare};
+ghost use Rattle.vg_fib.specs.Numbers.{AreFirstOf, AreFrom, HasPrefix, IsHeir, changed_by, covers_at, length_at, length_of, longer_of, most_slots};
+ghost use Rattle.vg_fib.specs.Trie.{GivesFirstChild, GivesSecondChild, HasChildren, HasFirst, HasRoom, IsLevels, IsPut, IsPutAt, IsRaised, IsRaisedFirst, IsRaisedSecond, number_at, Spare};
 
-use crate::table::{Fib, overwrite};
+use crate::numbers::{Change, MOST_REMOVED, MOST_SLOTS, add_slots};
+use crate::table::{Fib, covers, know_few};
 use std::alloc::{AllocError, Global};
 use std::marker::Model;
 use vg_model::{Memory, Prefix, RouteTo};
 
 // The entries of a child: it is the table of one byte of the address.
 const CHILD: usize = 256;
+
+// What stands at a place: a route, or nothing where it was removed.
+type Slot = Option<(Prefix, RouteTo)>;
 
 // What stands at a place of the first or the second level.
 #[derive(Clone, Copy)]
@@ -66,25 +69,108 @@ impl Levels {
         })
     }
 
-    // Puts the routes from this place on in, where those before it are in. A route's number is its place and one more,
-    // and 0 is no route. Shorter prefixes are put first, so that the children that longer ones of them will make are not
-    // gone through.
+    // Puts the routes of the slots from this place on in, where those before it are in. Shorter prefixes are put first, so that the
+    // children that longer ones of them will make are not gone through.
     fn put_from(
         &mut self,
         alloc: Global,
-        routes: &[(Prefix, RouteTo)],
+        slots: &[Slot],
         known: usize,
     ) -> Result<(), AllocError>
-        requires few { length routes.now ≤ most_routes }
-        requires known { known ≤ length routes.now }
-        requires has { HasFirst routes.now known self.old }
-        ensures { IfOk result (λ _. HasFirst routes.now (length routes.now) self.new) }
+        requires few { length slots.now ≤ most_slots }
+        requires known { known ≤ length slots.now }
+        requires room { HasRoom (length slots.now - known) self.old }
+        requires has { HasFirst slots.now known self.old }
+        ensures { IfOk result (λ _. HasFirst slots.now (length slots.now) self.new) }
     {
-        let order = by_length(alloc, routes, known)?;
+        let order = by_length(alloc, slots, known)?;
         for place in &order {
-            self.put(routes, routes[usize::from(*place)].0, *place + 1)?;
+            self.put_at(slots, usize::from(*place))?;
         }
         Ok(())
+    }
+
+    // Puts the route of a slot in, if there is one.
+    fn put_at(&mut self, slots: &[Slot], place: usize) -> Result<(), AllocError>
+        requires few { length slots.now ≤ most_slots }
+        requires place { place < length slots.now }
+        requires shape { IsLevels self.old }
+        requires room { Spare self.old }
+        ensures { IfOk result (λ _. IsPutAt slots.now place self.old self.new) }
+    {
+        if let Some(route) = slots[place] {
+            self.put(slots, route.0, Change::Comes(place as u16 + 1))?;
+        }
+        Ok(())
+    }
+
+    // Makes the slots those of the first routes of a table, as many as they are: a route that the table doesn't have at its turn is
+    // taken out, and the others get the table's targets. `None` where too many would have to be taken out.
+    fn follow(
+        &mut self,
+        slots: &mut Vec<Slot>,
+        routes: &[(Prefix, RouteTo)],
+    ) -> Result<Option<usize>, AllocError>
+        requires few { length slots.old.items ≤ most_slots }
+        requires room { HasRoom MOST_REMOVED self.old }
+        requires has { HasFirst slots.old.items (length slots.old.items) self.old }
+        ensures first { IfOk result (λ answer. IfSome answer (λ known. AreFirstOf routes.now known slots.new.items)) }
+        ensures has { IfOk result (λ answer. IfSome answer (λ _. HasFirst slots.new.items (length slots.new.items) self.new)) }
+    {
+        let mut known = 0;
+        let mut removed = 0;
+        for place in 0..slots.len() {
+            if let Some((prefix, _)) = slots[place] {
+                if let Some(route) = routes.get(known) && route.0 == prefix {
+                    slots[place] = Some(*route);
+                    known += 1;
+                } else if removed < MOST_REMOVED {
+                    self.take_out(slots, place, prefix)?;
+                    removed += 1;
+                } else {
+                    return Ok(None);
+                }
+            }
+        }
+        Ok(Some(known))
+    }
+
+    // Takes a route out: its slot is empty, and the next shorter prefix takes its addresses over.
+    fn take_out(
+        &mut self,
+        slots: &mut Vec<Slot>,
+        place: usize,
+        prefix: Prefix,
+    ) -> Result<(), AllocError>
+        requires few { length slots.old.items ≤ most_slots }
+        requires room { HasRoom 1 self.old }
+        requires stands { HasPrefix slots.old.items place prefix }
+        requires has { HasFirst slots.old.items (length slots.old.items) self.old }
+        ensures empty { IfOk result (λ _. slots.new.items ≡ set slots.old.items place None) }
+        ensures has { IfOk result (λ _. HasFirst slots.new.items (length slots.new.items) self.new) }
+        ensures second { IfOk result (λ _. length self.new.second.items ≤ length self.old.second.items + 256) }
+        ensures third { IfOk result (λ _. length self.new.third.items ≤ length self.old.third.items + 256) }
+    {
+        slots[place] = None;
+        let gone = place as u16 + 1;
+        let heir = heir(slots.as_slice(), prefix);
+        self.put(slots.as_slice(), prefix, Change::Goes { gone, heir })?;
+        Ok(())
+    }
+
+    // Whether so many routes can be put in behind so many slots.
+    fn has_room(&self, slots: usize, more: usize) -> bool
+        requires few { more ≤ most_slots }
+        requires slots { slots < 2 ^ 63 }
+        ensures slots { result ≡ true → slots + more ≤ most_slots }
+        ensures room { result ≡ true → HasRoom more self.now }
+        ensures removals { result ≡ true → HasRoom MOST_REMOVED self.now }
+    {
+        let most = CHILD * MOST_SLOTS;
+        let more_entries = CHILD * more;
+        slots + more <= MOST_SLOTS
+            && self.second.len() + more_entries <= most
+            && self.third.len() + more_entries <= most
     }
 
     // The number of an address's route: 0 where it has none.
@@ -104,50 +190,50 @@ impl Levels {
         }
     }
 
-    // Gives the addresses of a prefix the number of its route, but for those that have a longer route.
+    // Changes the numbers of the addresses of a prefix.
     fn put(
         &mut self,
-        routes: &[(Prefix, RouteTo)],
+        slots: &[Slot],
         prefix: Prefix,
-        number: u16,
+        change: Change,
     ) -> Result<(), AllocError>
         requires shape { IsLevels self.old }
         requires room { Spare self.old }
-        ensures { IfOk result (λ _. IsPut prefix (longer_of ip4 routes.now number) self.old self.new) }
+        ensures { IfOk result (λ _. IsPut prefix (changed_by ip4 slots.now change) self.old self.new) }
     {
         if prefix.len <= 16 {
-            self.put_short(routes, prefix, number);
+            self.put_short(slots, prefix, change);
             Ok(())
         } else if prefix.len <= 24 {
-            self.put_middle(routes, prefix, number)
+            self.put_middle(slots, prefix, change)
         } else {
-            self.put_long(routes, prefix, number)
+            self.put_long(slots, prefix, change)
         }
     }
 
-    // Puts a prefix of at most 16 bits.
-    fn put_short(&mut self, routes: &[(Prefix, RouteTo)], prefix: Prefix, number: u16)
+    // The same for a prefix of at most 16 bits.
+    fn put_short(&mut self, slots: &[Slot], prefix: Prefix, change: Change)
         requires shape { IsLevels self.old }
         requires short { prefix.len ≤ 16 }
-        ensures { IsPut prefix (longer_of ip4 routes.now number) self.old self.new }
+        ensures { IsPut prefix (changed_by ip4 slots.now change) self.old self.new }
     {
         let from = prefix.addr as usize >> 16;
         let count = 1 << (16 - prefix.len);
-        self.raise_first(routes, number, from, count);
+        self.raise_first(slots, change, from, count);
     }
 
-    // Puts a prefix of 17 to 24 bits.
+    // The same for a prefix of 17 to 24 bits.
     fn put_middle(
         &mut self,
-        routes: &[(Prefix, RouteTo)],
+        slots: &[Slot],
         prefix: Prefix,
-        number: u16,
+        change: Change,
     ) -> Result<(), AllocError>
         requires shape { IsLevels self.old }
         requires room { Spare self.old }
         requires longer { 16 < prefix.len }
         requires middle { prefix.len ≤ 24 }
-        ensures { IfOk result (λ _. IsPut prefix (longer_of ip4 routes.now number) self.old self.new) }
+        ensures { IfOk result (λ _. IsPut prefix (changed_by ip4 slots.now change) self.old self.new) }
     {
         let address = prefix.addr as usize;
         let child = self.first_child(address >> 16)?;
@@ -156,49 +242,49 @@ impl Levels {
         raise_second(
             &mut self.second,
             &mut self.third,
-            routes,
-            number,
+            slots,
+            change,
             from,
             count,
         );
         Ok(())
     }
 
-    // Puts a prefix of 25 to 32 bits.
+    // The same for a prefix of 25 to 32 bits.
     fn put_long(
         &mut self,
-        routes: &[(Prefix, RouteTo)],
+        slots: &[Slot],
         prefix: Prefix,
-        number: u16,
+        change: Change,
     ) -> Result<(), AllocError>
         requires shape { IsLevels self.old }
         requires room { Spare self.old }
         requires longer { 24 < prefix.len }
-        ensures { IfOk result (λ _. IsPut prefix (longer_of ip4 routes.now number) self.old self.new) }
+        ensures { IfOk result (λ _. IsPut prefix (changed_by ip4 slots.now change) self.old self.new) }
     {
         let address = prefix.addr as usize;
         let parent = self.first_child(address >> 16)?;
         let child = self.second_child(CHILD * parent + (address >> 8) % CHILD)?;
         let from = CHILD * child + address % CHILD;
         let count = 1 << (32 - prefix.len);
-        raise_third(&mut self.third, routes, number, from, count);
+        raise_third(&mut self.third, slots, change, from, count);
         Ok(())
     }
 
-    // Gives all addresses under so many places of the first level this number, but for those that have a longer route.
-    fn raise_first(&mut self, routes: &[(Prefix, RouteTo)], number: u16, from: usize, count: usize)
+    // Changes the numbers of all addresses under so many places of the first level.
+    fn raise_first(&mut self, slots: &[Slot], change: Change, from: usize, count: usize)
         requires shape { IsLevels self.old }
         requires places { from + count ≤ 65536 }
-        ensures { IsRaisedFirst (longer_of ip4 routes.now number) from count self.old self.new }
+        ensures { IsRaisedFirst (changed_by ip4 slots.now change) from count self.old self.new }
     {
         for place in from..from + count {
             match self.first[place] {
-                Entry::Leaf(old) => self.first[place] = Entry::Leaf(longer_of(routes, number, old)),
+                Entry::Leaf(old) => self.first[place] = Entry::Leaf(changed_by(slots, change, old)),
                 Entry::Child(child) => raise_second(
                     &mut self.second,
                     &mut self.third,
-                    routes,
-                    number,
+                    slots,
+                    change,
                     CHILD * child as usize,
                     CHILD,
                 ),
@@ -248,19 +334,20 @@ impl Levels {
 #[derive(Drop)]
 pub struct Mtrie {
     levels: Levels,
-    // In the order of their table.
-    routes: Vec<(Prefix, RouteTo)>,
+    // The routes in the order of their table, with empty slots between them.
+    slots: Vec<Slot>,
 }
 
 impl Model for Mtrie {
     ghost use Rattle.vg_fib.specs.Table.{Routes};
+    ghost use Rattle.vg_fib.specs.Numbers.{routes_in};
     ghost use Rattle.vg_fib.specs.Trie.{IsTrie};
 
     ghost Value = { Routes };
 
-    ghost view = { λ trie. trie.routes.items };
+    ghost view = { λ trie. routes_in trie.slots.items };
 
-    ghost invariant = { λ trie. IsTrie trie.routes.items trie.levels };
+    ghost invariant = { λ trie. IsTrie trie.slots.items trie.levels };
 }
 
 impl Mtrie {
@@ -276,8 +363,8 @@ impl Mtrie {
         Mtrie::anew(Levels::bare(alloc), Vec::new(alloc), alloc, fib)
     }
 
-    /// The same as [`Mtrie::build`], in the memory of this trie as far as it is enough. Where the prefixes of this trie are the
-    /// first of the table, only what is new is put in; else all is put in again.
+    /// The same as [`Mtrie::build`], in the memory of this trie as far as it is enough. Where few routes of this trie are
+    /// removed from the table, these are taken out, and what is new is put in; else all is put in again.
     ///
     /// # Errors
     ///
@@ -286,44 +373,51 @@ impl Mtrie {
         ensures routes { IfOk result (λ trie. trie ≡ fib.now) }
         ensures finds { IfOk result (λ trie. (address : ℕ) → best_route trie address ≡ best_route fib.now address) }
     {
-        if begins_with(fib.routes(), self.routes.as_slice()) {
-            return self.grown(alloc, fib);
+        let Mtrie {
+            mut levels,
+            mut slots,
+        } = self;
+        if levels.has_room(slots.len(), 0)
+            && let Some(known) = levels.follow(&mut slots, fib.routes())?
+            && levels.has_room(slots.len(), fib.routes().len() - known)
+        {
+            return Mtrie::grown(levels, slots, alloc, fib, known);
         }
-        let Mtrie { levels, routes } = self;
-        Mtrie::anew(levels, routes, alloc, fib)
+        Mtrie::anew(levels, slots, alloc, fib)
     }
 
     // The trie of a table, in this memory, whatever it says.
     fn anew(
         levels: Levels,
-        mut routes: Vec<(Prefix, RouteTo)>,
+        mut slots: Vec<Slot>,
         alloc: Global,
         fib: &Fib,
     ) -> Result<Mtrie, Memory>
         ensures { IfOk result (λ trie. trie ≡ fib.now) }
     {
-        routes.clear();
-        let nothing = Mtrie {
-            levels: levels.emptied()?,
-            routes,
-        };
-        nothing.grown(alloc, fib)
+        slots.clear();
+        know_few(fib);
+        Mtrie::grown(levels.emptied()?, slots, alloc, fib, 0)
     }
 
-    // The trie of a table whose first prefixes are those of this trie: their targets are the table's, and the other
-    // prefixes are put in.
-    fn grown(self, alloc: Global, fib: &Fib) -> Result<Mtrie, Memory>
-        requires { BeginsWith fib.now self }
+    // The trie of a table, of which so many routes, the first, are in these levels.
+    fn grown(
+        mut levels: Levels,
+        mut slots: Vec<Slot>,
+        alloc: Global,
+        fib: &Fib,
+        known: usize,
+    ) -> Result<Mtrie, Memory>
+        requires first { AreFirstOf fib.now known slots.items }
+        requires few { length slots.items + (length fib.now - known) ≤ most_slots }
+        requires room { HasRoom (length fib.now - known) levels }
+        requires has { HasFirst slots.items (length slots.items) levels }
         ensures { IfOk result (λ trie. trie ≡ fib.now) }
     {
-        let Mtrie {
-            mut levels,
-            mut routes,
-        } = self;
-        let known = routes.len();
-        overwrite(&mut routes, fib.routes())?;
-        levels.put_from(alloc, routes.as_slice(), known)?;
-        Ok(Mtrie { levels, routes })
+        let first = slots.len();
+        add_slots(&mut slots, &fib.routes()[known..])?;
+        levels.put_from(alloc, slots.as_slice(), first)?;
+        Ok(Mtrie { levels, slots })
     }
 
     /// The target of the longest prefix that covers an address, which is in the host's order; `None`
@@ -333,7 +427,10 @@ impl Mtrie {
     {
         match self.levels.number(address) {
             0 => None,
-            number => Some(&self.routes[number as usize - 1].1),
+            number => match &self.slots[number as usize - 1] {
+                Some(route) => Some(&route.1),
+                None => None,
+            },
         }
     }
 
@@ -345,106 +442,122 @@ impl Mtrie {
     }
 }
 
-// Whether these prefixes are the first of the routes, in the same order.
-fn begins_with(routes: &[(Prefix, RouteTo)], first: &[(Prefix, RouteTo)]) -> bool
-    ensures { result ≡ true → BeginsWith routes.now first.now }
-{
-    if first.len() > routes.len() {
-        return false;
-    }
-    for place in 0..first.len() {
-        if routes[place].0 != first[place].0 {
-            return false;
-        }
-    }
-    true
-}
-
 // The places from this one on, those of shorter prefixes first.
-fn by_length(
-    alloc: Global,
-    routes: &[(Prefix, RouteTo)],
-    known: usize,
-) -> Result<Vec<u16>, AllocError>
-    requires few { length routes.now ≤ most_routes }
-    requires known { known ≤ length routes.now }
-    ensures { IfOk result (λ order. AreFrom known (length routes.now) order.items) }
+fn by_length(alloc: Global, slots: &[Slot], known: usize) -> Result<Vec<u16>, AllocError>
+    requires few { length slots.now ≤ most_slots }
+    requires known { known ≤ length slots.now }
+    ensures { IfOk result (λ order. AreFrom known (length slots.now) order.items) }
 {
-    let mut order = Vec::with_capacity(alloc, routes.len() - known)?;
-    for place in known..routes.len() {
+    let mut order = Vec::with_capacity(alloc, slots.len() - known)?;
+    for place in known..slots.len() {
         order.push_reserved(place as u16);
     }
-    order.sort_unstable_by_key(|place| length_at(routes, usize::from(*place)));
+    order.sort_unstable_by_key(|place| length_at(slots, usize::from(*place)));
     Ok(order)
 }
 
-// How many bits the prefix at a place has; 0 behind the routes.
-fn length_at(routes: &[(Prefix, RouteTo)], place: usize) -> u8
-    ensures { result ≡ length_at ip4 routes.now place }
+// How many bits the prefix at a place has; 0 where no route stands.
+fn length_at(slots: &[Slot], place: usize) -> u8
+    ensures { result ≡ length_at ip4 slots.now place }
 {
-    match routes.get(place) {
-        Some(route) => route.0.len,
-        None => 0,
+    match slots.get(place) {
+        Some(Some(route)) => route.0.len,
+        _ => 0,
+    }
+}
+
+// Whether a route at a place covers the first address of a prefix, and isn't longer.
+fn is_around(slots: &[Slot], place: usize, prefix: Prefix) -> bool
+    ensures { IsTrue result ↔ ((length_at ip4 slots.now place ≤ prefix.len) × (covers_at ip4 slots.now place prefix.addr ≡ true)) }
+{
+    match slots.get(place) {
+        Some(Some(route)) => route.0.len <= prefix.len && covers(route.0, prefix.addr),
+        _ => false,
     }
 }
 
 // How many bits the prefix of a number has; 0 where the number is no route's.
-fn length_of(routes: &[(Prefix, RouteTo)], number: u16) -> u8
-    ensures { result ≡ length_of ip4 routes.now number }
+fn length_of(slots: &[Slot], number: u16) -> u8
+    ensures { result ≡ length_of ip4 slots.now number }
 {
     match number {
         0 => 0,
-        _ => length_at(routes, usize::from(number) - 1),
+        _ => length_at(slots, usize::from(number) - 1),
     }
 }
 
 // Which of two numbers stands where both routes cover: the new one, unless the old one's prefix is longer.
-fn longer_of(routes: &[(Prefix, RouteTo)], number: u16, old: u16) -> u16
-    ensures { result ≡ longer_of ip4 routes.now number old }
+fn longer_of(slots: &[Slot], number: u16, old: u16) -> u16
+    ensures { result ≡ longer_of ip4 slots.now number old }
 {
-    if length_of(routes, number) < length_of(routes, old) {
+    if length_of(slots, number) < length_of(slots, old) {
         old
     } else {
         number
     }
 }
 
-// Gives all addresses under so many places of the second level this number, but for those that have a longer route.
+// The number that stands after a change where this one stood.
+fn changed_by(slots: &[Slot], change: Change, old: u16) -> u16
+    ensures { result ≡ changed_by ip4 slots.now change old }
+{
+    match change {
+        Change::Comes(number) => longer_of(slots, number, old),
+        Change::Goes { gone, heir } if old == gone => heir,
+        Change::Goes { .. } => old,
+    }
+}
+
+// The number of the longest route around a prefix that has none itself; 0 where there is none.
+fn heir(slots: &[Slot], prefix: Prefix) -> u16
+    requires { length slots.now ≤ most_slots }
+    ensures { IsHeir ip4 slots.now prefix result }
+{
+    let mut heir = 0;
+    for place in 0..slots.len() {
+        if is_around(slots, place, prefix) {
+            heir = longer_of(slots, place as u16 + 1, heir);
+        }
+    }
+    heir
+}
+
+// Changes the numbers of all addresses under so many places of the second level.
 fn raise_second(
     second: &mut Vec<Entry>,
     third: &mut Vec<u16>,
-    routes: &[(Prefix, RouteTo)],
-    number: u16,
+    slots: &[Slot],
+    change: Change,
     from: usize,
     count: usize,
 )
     requires places { from + count ≤ length second.old.items }
     requires children { HasChildren second.old.items (length third.old.items) }
-    ensures { IsRaisedSecond (longer_of ip4 routes.now number) from count second.old.items third.old.items second.new.items third.new.items }
+    ensures { IsRaisedSecond (changed_by ip4 slots.now change) from count second.old.items third.old.items second.new.items third.new.items }
 {
     for place in from..from + count {
         match second[place] {
-            Entry::Leaf(old) => second[place] = Entry::Leaf(longer_of(routes, number, old)),
+            Entry::Leaf(old) => second[place] = Entry::Leaf(changed_by(slots, change, old)),
             Entry::Child(child) => {
-                raise_third(third, routes, number, CHILD * child as usize, CHILD)
+                raise_third(third, slots, change, CHILD * child as usize, CHILD)
             }
         }
     }
 }
 
-// Gives so many places of the third level this number, but for those that have a longer route's.
+// Changes the numbers at so many places of the third level.
 fn raise_third(
     third: &mut Vec<u16>,
-    routes: &[(Prefix, RouteTo)],
-    number: u16,
+    slots: &[Slot],
+    change: Change,
     from: usize,
     count: usize,
 )
     requires { from + count ≤ length third.old.items }
-    ensures { IsRaised (longer_of ip4 routes.now number) from count third.old.items third.new.items }
+    ensures { IsRaised (changed_by ip4 slots.now change) from count third.old.items third.new.items }
 {
     for place in from..from + count {
-        third[place] = longer_of(routes, number, third[place]);
+        third[place] = changed_by(slots, change, third[place]);
     }
 }
 

@@ -259,15 +259,20 @@ fn agree(rt: &impl Abort, fib: &Fib, trie: &Mtrie, address: u32) {
     assert_eq!(rt; trie.find(address), fib.find(address));
 }
 
-// Whether trie and table answer the same at the first and the last address of each prefix, and beside them.
+// Whether trie and table answer the same at the first and the last address of a prefix, and beside them.
+fn agree_around(rt: &impl Abort, fib: &Fib, trie: &Mtrie, prefix: Prefix) {
+    let first = prefix.addr;
+    let last = first | (u64::from(u32::MAX) >> prefix.len) as u32;
+    agree(rt, fib, trie, first);
+    agree(rt, fib, trie, last);
+    agree(rt, fib, trie, first.wrapping_sub(1));
+    agree(rt, fib, trie, last.wrapping_add(1));
+}
+
+// The same for each prefix of the table.
 fn agree_at_ends(rt: &impl Abort, fib: &Fib, trie: &Mtrie) {
     for (prefix, _) in fib.routes() {
-        let first = prefix.addr;
-        let last = first | (u64::from(u32::MAX) >> prefix.len) as u32;
-        agree(rt, fib, trie, first);
-        agree(rt, fib, trie, last);
-        agree(rt, fib, trie, first.wrapping_sub(1));
-        agree(rt, fib, trie, last.wrapping_add(1));
+        agree_around(rt, fib, trie, *prefix);
     }
 }
 
@@ -322,6 +327,130 @@ fn a_trie_follows_its_table(rt: HostRuntime) -> Result<(), Fail> {
     assert_eq!(rt; trie.find(0x0a01_0280), Some(via(2)));
     assert_eq!(rt; trie.find(0x0a01_8000), None);
     agree_at_ends(&rt, &fib, &trie);
+    Ok(())
+}
+
+// The prefix of so many bits, modulo 33, around 10.1.2.3.
+fn nested(bits: u32) -> Prefix {
+    prefix_of(0x0a01_0203, (bits % 33) as u8)
+}
+
+// Sets the prefixes of 0 to 32 bits around an address, then removes them in the order of the multiples of this step.
+fn remove_nested(rt: &impl Abort, alloc: Global, step: u32) -> Result<(), Fail> {
+    let mut fib = Fib::new(alloc)?;
+    for bits in 0..33 {
+        fib.set(nested(bits), via(bits as u16))?;
+    }
+    let mut trie = Mtrie::build(alloc, &fib)?;
+    for turn in 0..33_u32 {
+        let prefix = nested(turn.wrapping_mul(step));
+        fib.remove(prefix)?;
+        trie = trie.renewed(alloc, &fib)?;
+        let anew = Mtrie::build(alloc, &fib)?;
+        agree_around(rt, &fib, &trie, prefix);
+        agree_at_ends(rt, &fib, &trie);
+        assert_eq!(rt; trie.find(0x0a01_0203), anew.find(0x0a01_0203));
+    }
+    Ok(())
+}
+
+#[test]
+fn nested_prefixes_are_removed_from_the_shortest_on(rt: HostRuntime) -> Result<(), Fail> {
+    remove_nested(&rt, rt.alloc(), 1)
+}
+
+#[test]
+fn nested_prefixes_are_removed_from_the_longest_on(rt: HostRuntime) -> Result<(), Fail> {
+    remove_nested(&rt, rt.alloc(), 32)
+}
+
+#[test]
+fn nested_prefixes_are_removed_here_and_there(rt: HostRuntime) -> Result<(), Fail> {
+    remove_nested(&rt, rt.alloc(), 7)?;
+    remove_nested(&rt, rt.alloc(), 20)
+}
+
+// Removes these routes in the order of their places, one a turn.
+fn remove_in_order(
+    rt: &impl Abort,
+    alloc: Global,
+    routes: &[(Prefix, RouteTo)],
+    order: &[usize],
+) -> Result<(), Fail> {
+    let mut fib = Fib::new(alloc)?;
+    for (prefix, to) in routes {
+        fib.set(*prefix, *to)?;
+    }
+    let mut trie = Mtrie::build(alloc, &fib)?;
+    for (prefix, _) in &in_order(alloc, routes, order)? {
+        fib.remove(*prefix)?;
+        trie = trie.renewed(alloc, &fib)?;
+        for (other, _) in routes {
+            agree_around(rt, &fib, &trie, *other);
+        }
+    }
+    Ok(())
+}
+
+#[test]
+fn routes_are_removed_in_any_order(rt: HostRuntime) -> Result<(), Fail> {
+    let alloc = rt.alloc();
+    let routes = [(EVERYWHERE, via(0)), (HALF, via(1)), (NET, via(2))];
+    for order in [
+        [0, 1, 2],
+        [0, 2, 1],
+        [1, 0, 2],
+        [1, 2, 0],
+        [2, 0, 1],
+        [2, 1, 0],
+    ] {
+        remove_in_order(&rt, alloc, &routes, &order)?;
+    }
+    Ok(())
+}
+
+#[test]
+fn many_routes_are_removed_at_once(rt: HostRuntime) -> Result<(), Fail> {
+    let alloc = rt.alloc();
+    let mut fib = Fib::new(alloc)?;
+    fib.set(EVERYWHERE, RouteTo::Local)?;
+    for address in 0..40 {
+        fib.set(host(address), via(address as u16))?;
+    }
+    let trie = Mtrie::build(alloc, &fib)?;
+    // 16 are taken out in place; 17 more are too many for that.
+    for address in 0..16 {
+        fib.remove(host(address))?;
+    }
+    let trie = trie.renewed(alloc, &fib)?;
+    assert_eq!(rt; trie.find(15), Some(RouteTo::Local));
+    agree_at_ends(&rt, &fib, &trie);
+    for address in 16..33 {
+        fib.remove(host(address))?;
+    }
+    let trie = trie.renewed(alloc, &fib)?;
+    assert_eq!(rt; trie.find(32), Some(RouteTo::Local));
+    assert_eq!(rt; trie.find(33), Some(via(33)));
+    agree_at_ends(&rt, &fib, &trie);
+    Ok(())
+}
+
+#[test]
+fn a_removed_prefix_comes_again(rt: HostRuntime) -> Result<(), Fail> {
+    let alloc = rt.alloc();
+    let mut fib = Fib::new(alloc)?;
+    fib.set(TEN, via(1))?;
+    fib.set(NET, via(2))?;
+    fib.set(HOST, via(3))?;
+    let mut trie = Mtrie::build(alloc, &fib)?;
+    for turn in 4..8 {
+        fib.remove(NET)?;
+        fib.set(NET, via(turn))?;
+        trie = trie.renewed(alloc, &fib)?;
+        assert_eq!(rt; trie.find(0x0a01_0204), Some(via(turn)));
+        assert_eq!(rt; trie.find(0x0a01_0203), Some(via(3)));
+        agree_at_ends(&rt, &fib, &trie);
+    }
     Ok(())
 }
 

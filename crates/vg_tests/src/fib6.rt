@@ -96,19 +96,24 @@ fn agree(rt: &impl Abort, fib: &Fib6, spans: &Spans6, address: u128) {
     assert_eq!(rt; spans.target(address).copied(), plain);
 }
 
+// Whether spans and table answer the same at the first and the last address of a prefix, and beside them.
+fn agree_around(rt: &impl Abort, fib: &Fib6, spans: &Spans6, prefix: Prefix6) {
+    let first = prefix.addr;
+    let last = if prefix.len == 128 {
+        first
+    } else {
+        first | (u128::MAX >> prefix.len)
+    };
+    agree(rt, fib, spans, first);
+    agree(rt, fib, spans, last);
+    agree(rt, fib, spans, first.wrapping_sub(1));
+    agree(rt, fib, spans, last.wrapping_add(1));
+}
+
 // Whether they answer the same at the first and the last address of each prefix, and beside them.
 fn agree_at_ends(rt: &impl Abort, fib: &Fib6, spans: &Spans6) {
     for (prefix, _) in fib.routes() {
-        let first = prefix.addr;
-        let last = if prefix.len == 128 {
-            first
-        } else {
-            first | (u128::MAX >> prefix.len)
-        };
-        agree(rt, fib, spans, first);
-        agree(rt, fib, spans, last);
-        agree(rt, fib, spans, first.wrapping_sub(1));
-        agree(rt, fib, spans, last.wrapping_add(1));
+        agree_around(rt, fib, spans, *prefix);
     }
     agree(rt, fib, spans, 0);
     agree(rt, fib, spans, u128::MAX);
@@ -268,6 +273,101 @@ fn spans_and_table_agree_at_the_ends_of_each_prefix(rt: HostRuntime) -> Result<(
         fib.set(prefix_of(near, (turn % 129) as u8), via(turn as u16))?;
     }
     let spans = Spans6::build(alloc, &fib)?;
+    agree_at_ends(&rt, &fib, &spans);
+    Ok(())
+}
+
+// The prefix of so many bits, modulo 129, around the one host.
+fn nested(bits: u32) -> Prefix6 {
+    prefix_of(HOST.addr, (bits % 129) as u8)
+}
+
+// Sets the prefixes of 0 to 128 bits around an address, then removes them in the order of the multiples of this step.
+fn remove_nested(rt: &impl Abort, alloc: Global, step: u32) -> Result<(), Fail> {
+    let mut fib = Fib6::new(alloc)?;
+    for bits in 0..129 {
+        fib.set(nested(bits), via(bits as u16))?;
+    }
+    let mut spans = Spans6::build(alloc, &fib)?;
+    for turn in 0..129_u32 {
+        let prefix = nested(turn.wrapping_mul(step));
+        fib.remove(prefix)?;
+        spans = spans.renewed(&fib)?;
+        agree_around(rt, &fib, &spans, prefix);
+        agree(rt, &fib, &spans, HOST.addr);
+    }
+    let anew = Spans6::build(alloc, &fib)?;
+    assert_eq!(rt; spans.find(HOST.addr), anew.find(HOST.addr));
+    Ok(())
+}
+
+#[test]
+fn nested_prefixes_are_removed_from_the_shortest_on(rt: HostRuntime) -> Result<(), Fail> {
+    remove_nested(&rt, rt.alloc(), 1)
+}
+
+#[test]
+fn nested_prefixes_are_removed_from_the_longest_on(rt: HostRuntime) -> Result<(), Fail> {
+    remove_nested(&rt, rt.alloc(), 128)
+}
+
+#[test]
+fn nested_prefixes_are_removed_here_and_there(rt: HostRuntime) -> Result<(), Fail> {
+    remove_nested(&rt, rt.alloc(), 50)
+}
+
+// Sets six routes, removes them in this order of their places, one a turn, and sets the first one again.
+fn remove_in_order(rt: &impl Abort, alloc: Global, number: usize) -> Result<(), Fail> {
+    let routes = in_order(alloc, 0)?;
+    let mut fib = Fib6::new(alloc)?;
+    for (prefix, to) in &routes {
+        fib.set(*prefix, *to)?;
+    }
+    let mut spans = Spans6::build(alloc, &fib)?;
+    for (prefix, _) in &in_order(alloc, number)? {
+        fib.remove(*prefix)?;
+        spans = spans.renewed(&fib)?;
+        for (other, _) in &routes {
+            agree_around(rt, &fib, &spans, *other);
+        }
+    }
+    fib.set(HOST, via(9))?;
+    let spans = spans.renewed(&fib)?;
+    agree_around(rt, &fib, &spans, HOST);
+    Ok(())
+}
+
+#[test]
+fn routes_are_removed_in_any_order(rt: HostRuntime) -> Result<(), Fail> {
+    let alloc = rt.alloc();
+    for number in 0..720 {
+        remove_in_order(&rt, alloc, number)?;
+    }
+    Ok(())
+}
+
+#[test]
+fn many_routes_are_removed_at_once(rt: HostRuntime) -> Result<(), Fail> {
+    let alloc = rt.alloc();
+    let mut fib = Fib6::new(alloc)?;
+    fib.set(EVERYWHERE, RouteTo::Local)?;
+    for address in 0..40_u16 {
+        fib.set(host(u128::from(address)), via(address))?;
+    }
+    let spans = Spans6::build(alloc, &fib)?;
+    // 16 are taken out in place; 17 more are too many for that.
+    for address in 0..16_u16 {
+        fib.remove(host(u128::from(address)))?;
+    }
+    let spans = spans.renewed(&fib)?;
+    assert_eq!(rt; spans.find(15), Some(RouteTo::Local));
+    agree_at_ends(&rt, &fib, &spans);
+    for address in 16..33_u16 {
+        fib.remove(host(u128::from(address)))?;
+    }
+    let spans = spans.renewed(&fib)?;
+    assert_eq!(rt; spans.find(32), Some(RouteTo::Local));
+    assert_eq!(rt; spans.find(33), Some(via(33)));
     agree_at_ends(&rt, &fib, &spans);
     Ok(())
 }

@@ -1,6 +1,6 @@
 use Rattle.std.proofs.Common.{◌≡◌, ◌+◌, ◌-◌, ◌<◌, length, arith}
 use Rattle.vg_model.specs.Route.{ip4}
-use Rattle.vg_fib.specs.Numbers.{longer_of}
+use Rattle.vg_fib.specs.Numbers.{changed_by}
 use Rattle.vg_fib.proofs.LevelLemmas.{entry_read}
 use Rattle.vg_fib.proofs.RaiseLemmas.{leaf_raised_second, child_raised_second, counted_second}
 use Rattle.vg_fib.proofs.trie.raise_second.Goals as goal
@@ -19,7 +19,7 @@ loop-place-preserved c =
     let raised = c.loop-place.invariant in
     let place = c.loop-place.place in
     let from = c.args.from in
-    let f = longer_of ip4 c.args.routes.now c.args.number in
+    let f = changed_by ip4 c.args.slots.now c.args.change in
     let old = c.args.second.now.items in
     let old_third = c.args.third.now.items in
     let here : place ≡ from + (place - from) = omega arith in
@@ -30,7 +30,7 @@ loop-place-preserved c =
       | in-Leaf w ↦
           let is = entry_read c.loop-place.second.items place _ _ within c.index.ensures w.in-Leaf.is in
           let more = leaf_raised_second f from (place - from) place w.in-Leaf.old old c.loop-place.second.items old_third c.loop-place.third.items raised here old_within is in
-          rw (w.second-is, w.third-is, w.longer_of.ensures) (counted_second f from _ _ _ _ _ _ next more)
+          rw (w.second-is, w.third-is, w.changed_by.ensures) (counted_second f from _ _ _ _ _ _ next more)
       | in-Child w ↦
           let is = entry_read c.loop-place.second.items place _ _ within c.index.ensures w.in-Child.is in
           let more = child_raised_second f from (place - from) place w.in-Child.child old c.loop-place.second.items old_third c.loop-place.third.items _

@@ -1,7 +1,7 @@
 use Rattle.std.proofs.Common.{◌≡◌, ◌-◌, ◌<◌, length, sym, subst, ◌∙◌, arith}
 use Rattle.std.proofs.lemmas.Nat.{pow_pos}
 use Rattle.vg_model.specs.Route.{ip6}
-use Rattle.vg_fib.specs.Numbers.{longer_of}
+use Rattle.vg_fib.specs.Numbers.{changed_by}
 use Rattle.vg_fib.specs.Spans.{end_of}
 use Rattle.vg_fib.specs.declared.spans.Spans.{Spans}
 use Rattle.vg_fib.proofs.CutLemmas.{AreMarked, marked_last, marked_twice, spread_shape, spread_number}
@@ -11,7 +11,7 @@ use Rattle.vg_fib.proofs.spans.Spans.put.Goals.{in-Some+in_ok-to-in-Some, in-Non
 pub returns : goal.returns
 returns c =
     let prefix = c.args.prefix in
-    let f = longer_of ip6 c.args.routes.now c.args.number in
+    let f = changed_by ip6 c.args.slots.now c.args.change in
     let from = c.in_ok-from.from in
     let to = c.match-behind.to in
     let old = c.args.self.now in

@@ -9,7 +9,7 @@ use Rattle.vg_fib.proofs.trie.Levels.put_from.Given as goal
 abbrev pub invariant-loop-place : goal.invariant-loop-place
 invariant-loop-place l = record {
   shape : IsLevels l.self;
-  numbers : (address : ℕ) → address < 2 ^ 32 → IsBestOf ip4 l.routes (ArePut l.known l.place-items l.place-index) address (number_at l.self address);
-  second_few : length l.self.second.items ≤ 256 * (l.known + l.place-index);
-  third_few : length l.self.third.items ≤ 256 * (l.known + l.place-index);
+  numbers : (address : ℕ) → address < 2 ^ 32 → IsBestOf ip4 l.slots (ArePut l.known l.place-items l.place-index) address (number_at l.self address);
+  second : length l.self.second.items ≤ length l.initial.self.second.items + 256 * l.place-index;
+  third : length l.self.third.items ≤ length l.initial.self.third.items + 256 * l.place-index;
 }

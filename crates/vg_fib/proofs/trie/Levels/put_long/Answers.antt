@@ -3,7 +3,7 @@ use Rattle.std.proofs.lemmas.Nat.{one_shl}
 use Rattle.std.specs.Prelude.{if◌then◌else◌}
 use Rattle.vg_model.specs.Route.{ip4, covers_of}
 use Rattle.vg_fib.specs.declared.trie.Entry.TheVariants.{Child}
-use Rattle.vg_fib.specs.Numbers.{longer_of}
+use Rattle.vg_fib.specs.Numbers.{changed_by}
 use Rattle.vg_fib.specs.Trie.{IsRaised}
 use Rattle.vg_fib.proofs.SpanLemmas.{long_span}
 use Rattle.vg_fib.proofs.LevelLemmas.{entry, long_numbers, long_levels}
@@ -26,7 +26,7 @@ raise_third-requires c =
 pub returns : goal.returns
 returns c =
     let prefix = c.args.prefix in
-    let f = longer_of ip4 c.args.routes.now c.args.number in
+    let f = changed_by ip4 c.args.slots.now c.args.change in
     let parent = c.in_ok-parent.parent in
     let child = c.in_ok-child.child in
     let above = c.in_ok-parent.ensures in

@@ -2,7 +2,7 @@ use Rattle.std.proofs.Common.{◌+◌, ◌-◌, ◌*◌, ◌/◌, ◌%◌, ◌^�
 use Rattle.std.proofs.lemmas.Nat.{one_shl}
 use Rattle.std.specs.Prelude.{if◌then◌else◌}
 use Rattle.vg_model.specs.Route.{ip4, covers_of}
-use Rattle.vg_fib.specs.Numbers.{longer_of}
+use Rattle.vg_fib.specs.Numbers.{changed_by}
 use Rattle.vg_fib.specs.Trie.{IsRaisedSecond}
 use Rattle.vg_fib.proofs.SpanLemmas.{middle_span}
 use Rattle.vg_fib.proofs.LevelLemmas.{middle_numbers, middle_levels}
@@ -18,7 +18,7 @@ raise_second-requires-clause-places c =
 pub returns : goal.returns
 returns c =
     let prefix = c.args.prefix in
-    let f = longer_of ip4 c.args.routes.now c.args.number in
+    let f = changed_by ip4 c.args.slots.now c.args.change in
     let child = c.in_ok-child.child in
     let gives = c.in_ok-child.ensures in
     let levels = c.first_child.new.self in

@@ -1,7 +1,7 @@
 use Rattle.std.proofs.Common.{◌<◌, ◌-◌, ◌/◌, ◌^◌, subst, arith, rules}
 use Rattle.std.proofs.lemmas.Nat.{one_shl}
 use Rattle.vg_model.specs.Route.{ip4}
-use Rattle.vg_fib.specs.Numbers.{longer_of}
+use Rattle.vg_fib.specs.Numbers.{changed_by}
 use Rattle.vg_fib.specs.Trie.{IsRaisedFirst}
 use Rattle.vg_fib.proofs.SpanLemmas.{short_span}
 use Rattle.vg_fib.proofs.LevelLemmas.{short_numbers, raised_levels}
@@ -17,7 +17,7 @@ pub returns : goal.returns
 returns c =
     let prefix = c.args.prefix in
     let bound : prefix.addr < 2 ^ 32 = search rules in
-    let f = longer_of ip4 c.args.routes.now c.args.number in
+    let f = changed_by ip4 c.args.slots.now c.args.change in
     let raised = subst (λ count. IsRaisedFirst f (prefix.addr / 65536) count c.args.self.now c.raise_first.new.self)
     (one_shl (16 - prefix.len) 64 (omega arith)) c.raise_first.ensures in
     record {

@@ -1,6 +1,6 @@
 use Rattle.std.proofs.Common.{◌≡◌, ◌+◌, ◌-◌, ◌<◌, length, arith}
 use Rattle.vg_model.specs.Route.{ip4}
-use Rattle.vg_fib.specs.Numbers.{longer_of}
+use Rattle.vg_fib.specs.Numbers.{changed_by}
 use Rattle.vg_fib.proofs.LevelLemmas.{entry_read, fewer_children}
 use Rattle.vg_fib.proofs.RaiseLemmas.{leaf_raised_first, child_raised_first, counted_first}
 use Rattle.vg_fib.proofs.trie.Levels.raise_first.Goals as goal
@@ -24,7 +24,7 @@ loop-place-preserved c =
     let raised = c.loop-place.invariant in
     let place = c.loop-place.place in
     let from = c.args.from in
-    let f = longer_of ip4 c.args.routes.now c.args.number in
+    let f = changed_by ip4 c.args.slots.now c.args.change in
     let old = c.args.self.now in
     let mid = c.loop-place.self in
     let here : place ≡ from + (place - from) = omega arith in
@@ -36,7 +36,7 @@ loop-place-preserved c =
           let is = entry_read mid.first.items place _ _ within c.index.ensures w.in-Leaf.is in
           let more = leaf_raised_first f from (place - from) place w.in-Leaf.old old.first.items old.second.items old.third.items
           mid.first.items mid.second.items mid.third.items raised here old_within is in
-          rw (w.self-is, w.longer_of.ensures) (counted_first f from _ _ _ _ _ _ _ _ next more)
+          rw (w.self-is, w.changed_by.ensures) (counted_first f from _ _ _ _ _ _ _ _ next more)
       | in-Child w ↦
           let is = entry_read mid.first.items place _ _ within c.index.ensures w.in-Child.is in
           let more = child_raised_first f from (place - from) place w.in-Child.child old.first.items old.second.items old.third.items

@@ -1,0 +1,7 @@
+use Rattle.vg_model.specs.Route.{ip6}
+use Rattle.vg_fib.proofs.HeirLemmas.{IsHeirOf}
+use Rattle.vg_fib.proofs.spans.heir.Given as goal
+
+-- the heir among the places so far
+abbrev pub invariant-loop-place : goal.invariant-loop-place
+invariant-loop-place l = IsHeirOf ip6 l.slots l.prefix l.place l.heir
