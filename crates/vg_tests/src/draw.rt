@@ -1,6 +1,7 @@
 //! Tests of drawings: graphs with nodes of all forms of kinds, and routes. The program's tests draw with reports that were read.
 
 use std::alloc::Global;
+use std::process::Abort;
 use std::test::Fail;
 use vg_draw::draw;
 use vg_draw::laws::{arcs_stand_once, nodes_stand_once};
@@ -44,10 +45,15 @@ fn the_start_graph_is_drawn(rt: HostRuntime) -> Result<(), Fail> {
 }
 
 /// The drawing of a script's first generation, with a report or without one.
-fn drawn(alloc: Global, script: &[u8], report: &Option<Report>) -> Result<Vec<u8>, Fail> {
-    let script = parse_script(alloc, script).map_err(|_| "a faulty script")?;
-    let plan = Plan::new(alloc, script).map_err(|_| "a refused script")?;
-    let generations = Generations::of(alloc, &plan).map_err(|_| "no memory")?;
+fn drawn(
+    rt: &impl Abort,
+    alloc: Global,
+    script: &[u8],
+    report: &Option<Report>,
+) -> Result<Vec<u8>, Fail> {
+    let script = parse_script(alloc, script).expect(rt, "a script");
+    let plan = Plan::new(alloc, script).expect(rt, "a plan");
+    let generations = Generations::of(alloc, &plan).expect(rt, "memory");
     let mut out = Vec::new(alloc);
     draw(&mut out, report, 0, generations.master().graph())?;
     Ok(out)
@@ -75,7 +81,7 @@ arc pg-input out cut
 
 #[test]
 fn kinds_with_a_number_and_with_two_slots_are_drawn(rt: HostRuntime) -> Result<(), Fail> {
-    let text = drawn(rt.alloc(), TAGGED, &None)?;
+    let text = drawn(&rt, rt.alloc(), TAGGED, &None)?;
     let nodes = "  n9 [label=\"cut\\ndot1q-match-100\"];
   n10 [label=\"both\\nethernet-dual\"];
   n11 [label=\"cross\\nxconnect-3\"];
@@ -120,7 +126,7 @@ end
 fn both_arcs_of_a_node_have_one_color(rt: HostRuntime) -> Result<(), Fail> {
     let alloc = rt.alloc();
     let report = read_report(alloc, COUNTED).map_err(|_| "a faulty report")?;
-    let text = drawn(alloc, TAGGED, &Some(report))?;
+    let text = drawn(&rt, alloc, TAGGED, &Some(report))?;
     let nodes = "  n9 [label=\"cut\\ndot1q-match-100\\nvisits 5\\ndrop bad-length 2\"];
   n10 [label=\"both\\nethernet-dual\\nvisits 3\\ndrop unknown-type 3\"];
 ";
@@ -162,7 +168,7 @@ route6 ::/0 local
 #[test]
 fn a_neighbor_stands_once_whichever_routes_lead_over_it(rt: HostRuntime) -> Result<(), Fail> {
     let alloc = rt.alloc();
-    let text = drawn(alloc, ROUTED, &None)?;
+    let text = drawn(&rt, alloc, ROUTED, &None)?;
     let end = "
   i0 [shape=house, label=\"pg0\\n02:fe:00:00:00:00\\nmtu 9000 up\"]; wire -> i0 [style=dashed];
   a0 [shape=ellipse, label=\"a\\n02:00:00:00:00:0a\"]; i0 -> a0 [style=dashed];
@@ -174,6 +180,9 @@ fn a_neighbor_stands_once_whichever_routes_lead_over_it(rt: HostRuntime) -> Resu
     // The drawing of the neighbors alone is the same.
     let begin = b"adjacency a interface pg0 dst 02:00:00:00:00:0a\n".len() * 3;
     let neighbors = ROUTED.get(..begin).ok_or("a short script")?;
-    assert_eq!(rt; drawn(alloc, neighbors, &None)?.as_slice(), text.as_slice());
+    assert_eq!(rt;
+        drawn(&rt, alloc, neighbors, &None)?.as_slice(),
+        text.as_slice()
+    );
     Ok(())
 }

@@ -82,15 +82,20 @@ fn assert_limits(
     Ok(())
 }
 
-/// The master of a plan.
-fn master_of(alloc: Global, plan: &Plan) -> Result<Master, Fail> {
-    Ok(Master::new(alloc, plan).map_err(|_| "no memory")?)
+/// The plan of a text that is accepted. It is expected here and by the tests, as masters are: where a `?` stands, the drop of each master and plan
+/// that is there is proved, which takes minutes.
+fn plan_of(rt: &impl Abort, alloc: Global, text: &[u8]) -> Plan {
+    planned(alloc, text).expect(rt, "a plan")
 }
 
-/// Where the route of an address leads after these edits.
-fn route_after(alloc: Global, master: &mut Master, edits: &Edits) -> Result<Option<RouteTo>, Fail> {
-    master.apply(alloc, edits)?;
-    Ok(master.fib().find(ADDRESS))
+/// The master of a plan.
+fn master_of(rt: &impl Abort, alloc: Global, plan: &Plan) -> Master {
+    Master::new(alloc, plan).expect(rt, "memory")
+}
+
+/// Whether the route of an address leads there.
+fn leads(master: &Master, to: Option<RouteTo>) -> bool {
+    master.fib().find(ADDRESS) == to
 }
 
 /// The only neighbor.
@@ -114,25 +119,15 @@ fn edits_of<'a>(plan: &'a Plan, block: usize) -> Option<&'a Edits> {
     }
 }
 
-/// Where the route of an address leads after a group of the process that is the first block.
-fn route_after_group(
-    alloc: Global,
-    master: &mut Master,
-    plan: &Plan,
-    group: usize,
-) -> Result<Option<RouteTo>, Fail> {
-    let groups = groups_of(plan, 0).ok_or("no process")?;
-    let edits = groups.as_slice().get(group).ok_or("no group")?;
-    route_after(alloc, master, edits)
+/// The edits of a group of the process that is the first block.
+fn group_of<'a>(plan: &'a Plan, group: usize) -> Option<&'a Edits> {
+    groups_of(plan, 0)?.as_slice().get(group)
 }
 
-/// Where it leads after the second block, which is one at one time.
-fn route_after_block(
-    alloc: Global,
-    master: &mut Master,
-    plan: &Plan,
-) -> Result<Option<RouteTo>, Fail> {
-    route_after(alloc, master, edits_of(plan, 1).ok_or("no at")?)
+/// Makes these edits.
+fn make(rt: &impl Abort, alloc: Global, master: &mut Master, edits: Option<&Edits>) {
+    let edits = edits.expect(rt, "edits");
+    master.apply(alloc, edits).expect(rt, "no refusal");
 }
 
 /// Whether these generations are in force at these times.
@@ -166,18 +161,17 @@ fn events_at_one_time_come_by_line(rt: HostRuntime) -> Result<(), Fail> {
 }
 
 #[test]
-fn a_route_flaps(rt: HostRuntime) -> Result<(), Fail> {
+fn a_route_flaps(rt: HostRuntime) {
     let alloc = rt.alloc();
-    let plan = planned(alloc, FLAP)?;
-    let mut master = master_of(alloc, &plan)?;
-    assert_eq!(rt; master.fib().find(ADDRESS), via_east());
-    let first = route_after_group(alloc, &mut master, &plan, 0)?;
-    assert_eq!(rt; first, Some(RouteTo::Drop));
-    let between = route_after_block(alloc, &mut master, &plan)?;
-    assert_eq!(rt; between, Some(RouteTo::Local));
-    let second = route_after_group(alloc, &mut master, &plan, 1)?;
-    assert_eq!(rt; second, via_east());
-    Ok(())
+    let plan = plan_of(&rt, alloc, FLAP);
+    let mut master = master_of(&rt, alloc, &plan);
+    assert!(rt; leads(&master, via_east()));
+    make(&rt, alloc, &mut master, group_of(&plan, 0));
+    assert!(rt; leads(&master, Some(RouteTo::Drop)));
+    make(&rt, alloc, &mut master, edits_of(&plan, 1));
+    assert!(rt; leads(&master, Some(RouteTo::Local)));
+    make(&rt, alloc, &mut master, group_of(&plan, 1));
+    assert!(rt; leads(&master, via_east()));
 }
 
 /// Why a text is refused, where it is.
@@ -198,37 +192,40 @@ fn an_edit_of_an_event_is_refused(rt: HostRuntime) -> Result<(), Fail> {
     Ok(())
 }
 
-/// Why a master refuses the edits of a script, where it does.
-fn refused_by(
+/// Whether a master refuses the edits of a script on this line, for this cause.
+fn is_refused(
+    rt: &impl Abort,
     alloc: Global,
     master: &mut Master,
     text: &[u8],
-) -> Result<Option<ScriptError>, Fail> {
-    let script = parse_script(alloc, text)?;
-    Ok(master.apply(alloc, &script.start).err())
+    line: u32,
+    cause: ScriptCause,
+) -> bool {
+    let script = parse_script(alloc, text).expect(rt, "a script");
+    match master.apply(alloc, &script.start) {
+        Ok(()) => false,
+        Err(error) => error.line == line && error.cause == cause,
+    }
 }
 
 #[test]
-fn a_refused_group_changes_nothing(rt: HostRuntime) -> Result<(), Fail> {
+fn a_refused_group_changes_nothing(rt: HostRuntime) {
     let alloc = rt.alloc();
-    let plan = planned(alloc, b"")?;
-    assert_eq!(rt; plan.generations(), 1);
-    let mut master = master_of(alloc, &plan)?;
+    let plan = plan_of(&rt, alloc, b"");
+    assert!(rt; plan.generations() == 1);
+    let mut master = master_of(&rt, alloc, &plan);
     let text = b"node a kind pass\nroute 10.0.0.0/8 drop\nunroute 11.0.0.0/8\n";
-    let error = refused_by(alloc, &mut master, text)?.ok_or("made")?;
-    assert_eq!(rt; (error.line, error.cause), (3, ScriptCause::NoRoute));
-    assert_eq!(rt; master.graph().nodes(), 9);
-    assert_eq!(rt; master.fib().routes().len(), 0);
-    Ok(())
+    assert!(rt; is_refused(&rt, alloc, &mut master, text, 3, ScriptCause::NoRoute));
+    assert!(rt; master.graph().nodes() == 9);
+    assert!(rt; master.fib().routes().is_empty());
 }
 
 #[test]
-fn generations_come_one_after_the_other(rt: HostRuntime) -> Result<(), Fail> {
-    let plan = planned(rt.alloc(), FLAP)?;
-    let generations = Generations::of(rt.alloc(), &plan).map_err(|_| "no memory")?;
-    assert_eq!(rt; generations.master().fib().find(ADDRESS), via_east());
+fn generations_come_one_after_the_other(rt: HostRuntime) {
+    let plan = plan_of(&rt, rt.alloc(), FLAP);
+    let generations = Generations::of(rt.alloc(), &plan).expect(&rt, "memory");
+    assert!(rt; leads(generations.master(), via_east()));
     assert!(rt; plan.generations() == 5);
-    let later = generations.advance().map_err(|_| "no memory")?;
-    assert_eq!(rt; later.master().fib().find(ADDRESS), Some(RouteTo::Drop));
-    Ok(())
+    let later = generations.advance().expect(&rt, "memory");
+    assert!(rt; leads(later.master(), Some(RouteTo::Drop)));
 }

@@ -37,24 +37,17 @@ fn finds(
 }
 
 #[test]
-fn routes_lead_over_several_adjacencies(rt: HostRuntime) -> Result<(), Fail> {
+fn routes_lead_over_several_adjacencies(rt: HostRuntime) {
     let alloc = rt.alloc();
-    let plan = planned(alloc, BOTH)?;
-    let mut generations = Generations::of(alloc, &plan).map_err(|_| "no memory")?;
+    let plan = planned(alloc, BOTH).expect(&rt, "a plan");
+    let mut generations = Generations::of(alloc, &plan).expect(&rt, "memory");
     assert!(rt; finds(generations.master(), via(&[1, 1, 0]), via(&[0, 1]), None));
     assert!(rt; plan.generations() == 3);
-    generations = generations.advance().map_err(|_| "no memory")?;
-    assert!(rt;
-        finds(
-            generations.master(),
-            via(&[1, 1, 0]),
-            via(&[0, 1]),
-            Some(RouteTo::Local)
-        )
-    );
-    generations = generations.advance().map_err(|_| "no memory")?;
+    generations = generations.advance().expect(&rt, "memory");
+    let local = Some(RouteTo::Local);
+    assert!(rt; finds(generations.master(), via(&[1, 1, 0]), via(&[0, 1]), local));
+    generations = generations.advance().expect(&rt, "memory");
     assert!(rt; finds(generations.master(), via(&[1, 1, 0]), via(&[1]), via(&[1])));
-    Ok(())
 }
 
 // A plan is refused on this line, for this cause.
@@ -96,18 +89,31 @@ fn unknown_adjacencies_and_prefixes_are_refused(rt: HostRuntime) -> Result<(), F
     )
 }
 
+// 2001:db8::/32.
+const SITE: Prefix6 = Prefix6 {
+    addr: 0x2001_0db8_0000_0000_0000_0000_0000_0000,
+    len: 32,
+};
+
+// Whether this is the only IPv6 route, to the router itself.
+fn has_the_site_alone(master: &Master) -> bool {
+    match master.fib6().routes() {
+        [(prefix, to)] => *prefix == SITE && *to == RouteTo::Local,
+        _ => false,
+    }
+}
+
 #[test]
-fn a_refused_group_changes_no_ip6_route(rt: HostRuntime) -> Result<(), Fail> {
+fn a_refused_group_changes_no_ip6_route(rt: HostRuntime) {
     let alloc = rt.alloc();
-    let plan = planned(alloc, b"route6 2001:db8::/32 local\n")?;
-    let script = parse_script(alloc, b"route6 ::/0 drop\nunroute6 ::1/128\n")?;
-    let mut master = Master::new(alloc, &plan).map_err(|_| "no memory")?;
-    let error = master.apply(alloc, &script.start).err().ok_or("made")?;
-    assert_eq!(rt; (error.line, error.cause), (2, ScriptCause::NoRoute));
-    let site = Prefix6 {
-        addr: 0x2001_0db8_0000_0000_0000_0000_0000_0000,
-        len: 32,
-    };
-    assert_eq!(rt; master.fib6().routes(), [(site, RouteTo::Local)].as_slice());
-    Ok(())
+    let plan = planned(alloc, b"route6 2001:db8::/32 local\n").expect(&rt, "a plan");
+    let text = b"route6 ::/0 drop\nunroute6 ::1/128\n";
+    let script = parse_script(alloc, text).expect(&rt, "a script");
+    let mut master = Master::new(alloc, &plan).expect(&rt, "memory");
+    let error = master
+        .apply(alloc, &script.start)
+        .err()
+        .expect(&rt, "a refusal");
+    assert!(rt; error.line == 2 && error.cause == ScriptCause::NoRoute);
+    assert!(rt; has_the_site_alone(&master));
 }
