@@ -274,7 +274,8 @@ pub put_begins : (slots : SlotsOf Prefix6) (known : ℕ) (order : List ℕ) (spa
 put_begins slots known order spans has = record {
   shape = has.shape;
   numbers = λ address number bound there.
-      best_among are6 slots (λ k. k < known) (ArePut known order 0) address number (λ k within here. put_before known order k here) (has.numbers address number bound there);
+      best_among are6 slots (λ k. k < known) (ArePut known order 0) address number (λ k within here. put_before known order k here)
+      (has.numbers address number bound there);
 }
 
 -- in a turn the next place of the order is put
@@ -293,7 +294,8 @@ pub put_skips : (slots : SlotsOf Prefix6) (known turn q : ℕ) (order : List ℕ
 put_skips slots known turn q order spans at first put = record {
   shape = put.shape;
   numbers = λ address number bound has.
-      best_among are6 slots (ArePut known order turn) (ArePut known order (turn + 1)) address number (λ k within here. still k here) (put.numbers address number bound has);
+      best_among are6 slots (ArePut known order turn) (ArePut known order (turn + 1)) address number (λ k within here. still k here)
+      (put.numbers address number bound has);
 }
   where
     still : (k : ℕ) → ArePut known order (turn + 1) k → ArePut known order turn k
@@ -311,12 +313,14 @@ pub slot_read : (empty turn place : ℕ) (order : List ℕ) → turn < length or
 slot_read empty turn place order inside is = get_or-map (λ place. empty + place) order turn 0 0 inside ∙ ap (λ n. empty + n) (sym is)
 
 -- after the last turn all are put
-pub put_ends : (slots : SlotsOf Prefix6) (routes : Routes6) (known turn empty : ℕ) (order : List ℕ) (spans : Spans) → IsOrder (ranks ip6 routes) order → length order ≤ turn
+pub put_ends : (slots : SlotsOf Prefix6) (routes : Routes6) (known turn empty : ℕ) (order : List ℕ) (spans : Spans) → IsOrder (ranks ip6 routes) order
+    → length order ≤ turn
     → empty + length routes ≡ length slots → empty ≤ known → HasPut slots known (slots_of empty order) turn spans → HasFirst6 slots (length slots) spans
 put_ends slots routes known turn empty order spans is past last low put = record {
   shape = put.shape;
   numbers = λ address number bound has.
-      best_among are6 slots (ArePut known (slots_of empty order) turn) (λ k. k < length slots) address number (λ k within _. all k within) (put.numbers address number bound has);
+      best_among are6 slots (ArePut known (slots_of empty order) turn) (λ k. k < length slots) address number (λ k within _. all k within)
+      (put.numbers address number bound has);
 }
   where
     all : (k : ℕ) → k < length slots → ArePut known (slots_of empty order) turn k

@@ -1,5 +1,5 @@
 -- For `follow`, `take_out`, `anew` and `grown`, of levels and of spans: what they have of slots that change.
-use Rattle.std.proofs.Common.{◌≡◌, ℕ, ◌+◌, ◌<◌, ◌≤◌, ◌^◌, [], ◌∷◌, ◌++◌, ◌-◌, map, take, drop, length, get_or, refl, sym, ◌∙◌, ap, subst, arith, length-append}
+use Rattle.std.proofs.Common.{◌≡◌, ℕ, ◌+◌, ◌<◌, ◌≤◌, [], ◌∷◌, ◌++◌, ◌-◌, map, take, drop, length, get_or, refl, sym, ◌∙◌, ap, subst, arith, length-append}
 use Rattle.std.proofs.Math.ListN.{set, length-set}
 use Rattle.std.proofs.lemmas.List.{length-map, length-drop, length-take-le, take_all}
 use Rattle.std.specs.Prelude.{Some, None}
@@ -42,14 +42,16 @@ added_length routes known slots more is =
     ∙ ap (λ n. length slots + n) (length-map (drop known routes) (λ route. Some route) ∙ length-drop known routes))
 
 -- slots are added
-pub levels_added : (slots added more : SlotsOf Prefix) (levels : Levels) → more ≡ slots ++ added → HasFirst slots (length slots) levels → HasFirst more (length slots) levels
+pub levels_added : (slots added more : SlotsOf Prefix) (levels : Levels) → more ≡ slots ++ added → HasFirst slots (length slots) levels
+    → HasFirst more (length slots) levels
 levels_added slots added more levels is has = record {
   shape = has.shape;
   numbers = λ address bound. best_moved are4 slots more address (number_at levels address) (omega (arith, ap length is, length-append slots added))
       (λ k inside. added_same ip4 slots added more address k is inside) (has.numbers address bound);
 }
 
-pub spans_added : (slots added more : SlotsOf Prefix6) (spans : Spans) → more ≡ slots ++ added → HasFirst6 slots (length slots) spans → HasFirst6 more (length slots) spans
+pub spans_added : (slots added more : SlotsOf Prefix6) (spans : Spans) → more ≡ slots ++ added → HasFirst6 slots (length slots) spans
+    → HasFirst6 more (length slots) spans
 spans_added slots added more spans is has = record {
   shape = has.shape;
   numbers = λ address number bound there. best_moved are6 slots more address number (omega (arith, ap length is, length-append slots added))
@@ -100,7 +102,8 @@ spans_after slots place heir prefix old new stands is has spread = record {
   numbers = λ address number bound there.
       let raised = spread.numbers address number bound there in
       subst (IsBestOf ip6 (set slots place None) (λ k. k < length (set slots place None)) address) (sym raised.is)
-      (number_after are6 slots place prefix stands (has_within are6 slots place prefix stands) address heir raised.old is (has.numbers address raised.old bound raised.had));
+      (number_after are6 slots place prefix stands (has_within are6 slots place prefix stands) address heir raised.old is
+      (has.numbers address raised.old bound raised.had));
 }
 
 -- the route in a slot is put in

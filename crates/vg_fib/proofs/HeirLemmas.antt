@@ -125,7 +125,8 @@ module _ {P : Type 0} {kind : PrefixKind P} (are : ArePrefixes kind) where
       let few : kind.len inner ≤ kind.width = are.few inner in
       let width : kind.width - kind.len outer ≡ low + high = omega (arith, few, shorter) in
       let power : 2 ^ (kind.width - kind.len outer) ≡ 2 ^ low * 2 ^ high = ap (λ w. 2 ^ w) width ∙ pow-add 2 low high in
-      let whole : (z : ℕ) → z / 2 ^ (kind.width - kind.len outer) ≡ z / 2 ^ low / 2 ^ high = λ z. ap (λ d. z / d) power ∙ sym (div-div-eq-div-mul z (2 ^ low) (2 ^ high)) in
+      let whole : (z : ℕ) → z / 2 ^ (kind.width - kind.len outer) ≡ z / 2 ^ low / 2 ^ high =
+      λ z. ap (λ d. z / d) power ∙ sym (div-div-eq-div-mul z (2 ^ low) (2 ^ high)) in
       let both : x / 2 ^ low ≡ y / 2 ^ low = sym (eqb-true _ _ over_x) ∙ eqb-true _ _ over_y in
       eq-eqb _ _ (eqb-true _ _ is ∙ (whole x ∙ (ap (λ q. q / 2 ^ high) both ∙ sym (whole y))))
 
@@ -218,7 +219,8 @@ module _ {P : Type 0} {kind : PrefixKind P} (are : ArePrefixes kind) where
     pub number_after : (address heir number : ℕ) → IsHeir kind left prefix heir → IsBest address number
         → IsBestLeft address (if covers_of kind prefix address then (if number == q + 1 then heir else number) else number)
     number_after address heir number is best =
-        elim (covers_of kind prefix address) as (λ b. covers_of kind prefix address ≡ b → IsBestLeft address (if b then (if number == q + 1 then heir else number) else number)) [
+        elim (covers_of kind prefix address) as (λ b. covers_of kind prefix address ≡ b
+        → IsBestLeft address (if b then (if number == q + 1 then heir else number) else number)) [
           | true ↦ λ over.
               elim (number == q + 1) as (λ b. (number == q + 1) ≡ b → IsBestLeft address (if b then heir else number)) [
                 | true ↦ λ e.
@@ -256,13 +258,14 @@ module _ {P : Type 0} {kind : PrefixKind P} (are : ArePrefixes kind) where
         | inr ne ↦ inl (omega (arith, here.0, ne), here.1)
       ]) inside so.best in
       let longest : IsBestOf kind slots (λ k. (k < place + 1) × (length_at kind slots k ≤ kind.len prefix)) (kind.addr prefix) (longer_of kind slots (suc place) heir) =
-      subst (λ b. IsBestOf kind slots (λ k. (k < place + 1) × (length_at kind slots k ≤ kind.len prefix)) (kind.addr prefix) (if b then longer_of kind slots (suc place) heir else heir))
-      around.1 best in
+      subst (λ b. IsBestOf kind slots (λ k. (k < place + 1) × (length_at kind slots k ≤ kind.len prefix)) (kind.addr prefix)
+      (if b then longer_of kind slots (suc place) heir else heir)) around.1 best in
       subst (λ n. IsHeirOf kind slots prefix (place + 1) (longer_of kind slots n heir)) (sym next) (record {
-        short = elim (nat_lt (length_at kind slots place) (length_of kind slots heir)) as (λ b. length_of kind slots (if b then heir else suc place) ≤ kind.len prefix) [
-          | true ↦ so.short
-          | false ↦ around.0
-        ];
+        short = elim (nat_lt (length_at kind slots place) (length_of kind slots heir)) as (λ b. length_of kind slots
+            (if b then heir else suc place) ≤ kind.len prefix) [
+              | true ↦ so.short
+              | false ↦ around.0
+            ];
         best = longest;
       })
 

@@ -7,7 +7,7 @@ use Rattle.std.proofs.lemmas.List.Sorted.{Contains-permutation, IsPermutation-sy
 use Rattle.std.specs.Prelude.{Option, Some, None, option_map, nat_lt, IsPermutation, if◌then◌else◌}
 use Rattle.std.specs.List.{Contains, AllByRecursion}
 use Rattle.vg_model.specs.declared.routes.RouteTo.{RouteTo}
-use Rattle.vg_model.specs.Route.{PrefixKind, RoutesOf, covers_of, best_of}
+use Rattle.vg_model.specs.Route.{PrefixKind, best_of}
 use Rattle.vg_fib.specs.Table.{HasOneEach}
 use Rattle.vg_fib.specs.Numbers.{SlotsOf, routes_in, slot_at, length_if, length_at, length_of, longer_of, covers_if, covers_at, target_of, IsBestOf, AreFrom}
 use Rattle.vg_fib.proofs.PrefixLemmas.{ArePrefixes}
@@ -163,7 +163,8 @@ module _ {P : Type 0} {kind : PrefixKind P} (are : ArePrefixes kind) where
   ]
 
   -- a route covers an address by its slot
-  covered_there : (slots : SlotsOf P) (k address : ℕ) (route : P × RouteTo) → slot_at slots k ≡ Some route → covers_at kind slots k address ≡ covering kind address route
+  covered_there : (slots : SlotsOf P) (k address : ℕ) (route : P × RouteTo) → slot_at slots k ≡ Some route
+      → covers_at kind slots k address ≡ covering kind address route
   covered_there slots k address route is = ap (λ slot. covers_if kind slot address) is
 
   -- where the slot at a place covers an address a route stands there
@@ -175,7 +176,8 @@ module _ {P : Type 0} {kind : PrefixKind P} (are : ArePrefixes kind) where
   pub best_is_route : (slots : SlotsOf P) (address number : ℕ) → HasOneEach kind (routes_in slots)
       → IsBestOf kind slots (λ k. k < length slots) address number → target_of slots number ≡ best_of kind (routes_in slots) address
   best_is_route slots address zero distinct best =
-      sym (no_answer are (routes_in slots) address (All-from_recursion (IsElsewhere kind address) (routes_in slots) (all_in (IsElsewhere kind address) slots (λ k route is yes.
+      sym (no_answer are (routes_in slots) address (All-from_recursion (IsElsewhere kind address) (routes_in slots) (all_in (IsElsewhere kind address) slots
+      (λ k route is yes.
       let on : covers_at kind slots k address ≡ true = covered_there slots k address route is ∙ yes in
       false≢true (sym (best k (within_slots slots k address on) (within_slots slots k address on)) ∙ on)))))
   best_is_route slots address (suc place) distinct best =
@@ -185,7 +187,8 @@ module _ {P : Type 0} {kind : PrefixKind P} (are : ArePrefixes kind) where
       ∙ sym (longest_match_is_best are (routes_in slots) address route distinct (record {
         inside = in_routes slots place route there.1;
         covers = sym (covered_there slots place address route there.1) ∙ best.covers;
-        longest = All-from_recursion (IsAtMost kind address (kind.len route.0)) (routes_in slots) (all_in (IsAtMost kind address (kind.len route.0)) slots (λ k other is yes.
+        longest = All-from_recursion (IsAtMost kind address (kind.len route.0)) (routes_in slots) (all_in (IsAtMost kind address (kind.len route.0)) slots
+            (λ k other is yes.
             let on : covers_at kind slots k address ≡ true = covered_there slots k address other is ∙ yes in
             let less : length_at kind slots k ≤ length_at kind slots place = best.longest k (within_slots slots k address on) (within_slots slots k address on) on in
             omega (arith, less, ap (length_if kind) is, ap (length_if kind) there.1)));

@@ -17,16 +17,17 @@
 //! grows.
 //!
 //! [`Spans6`] are spans of addresses side by side, in each of which one route is best: 4,096 routes make at most 8,193 of them, of 18 bytes
-//! each, and removed routes leave at most as many again. A trie of 128 bits would take up to 15 steps and, for as many routes of 128 bits, 4,096 * 14 * 256 entries. The span of an
-//! address is searched by where spans begin: 16 places at once, then 15 between two of them, 15 again, and one. These looks don't hang
-//! on one another, so the processor makes them side by side, and a look-up costs as much whatever the prefixes are and however they nest.
+//! each, and removed routes leave at most as many again. A trie of 128 bits would take up to 15 steps and, for as many routes of 128 bits,
+//! 4,096 * 14 * 256 entries. The span of an address is searched by where spans begin: 16 places at once, then 15 between two of them, 15
+//! again, and one. These looks don't hang on one another, so the processor makes them side by side, and a look-up costs as much whatever
+//! the prefixes are and however they nest.
 //!
 //! [`Mtrie::renewed`] and [`Spans6::renewed`] bring them up to date with their table in place: they go over all routes of the table, and
 //! a new prefix, or a removed one, costs the places, or the spans, that it covers. For a removed one they look at each slot once more. They
 //! take their value, so nobody looks up in it meanwhile. [`Mtrie::target`] and [`Spans6::target`] only read, so the workers of one
 //! generation can share both behind a reference.
 //!
-//! In which order to read: `table`, `trie`; then `table6`, `spans`, and `laws`.
+//! In which order to read: `table`, `numbers`, `trie`; then `table6`, `spans`, and `laws`.
 #![tactic(auto)]
 
 pub mod laws;

@@ -96,7 +96,9 @@ impl Spans {
         let mut removed = 0;
         for place in 0..slots.len() {
             if let Some((prefix, _)) = slots[place] {
-                if let Some(route) = routes.get(known) && route.0 == prefix {
+                if let Some(route) = routes.get(known)
+                    && route.0 == prefix
+                {
                     slots[place] = Some(*route);
                     known += 1;
                 } else if removed < MOST_REMOVED {
@@ -159,12 +161,7 @@ impl Spans {
     }
 
     // Changes the numbers of the addresses of a prefix.
-    fn put(
-        &mut self,
-        slots: &[Slot],
-        prefix: Prefix6,
-        change: Change,
-    ) -> Result<(), AllocError>
+    fn put(&mut self, slots: &[Slot], prefix: Prefix6, change: Change) -> Result<(), AllocError>
         requires { IsSpans self.old }
         ensures { IfOk result (λ _. IsSpread prefix (changed_by ip6 slots.now change) self.old self.new) }
     {

@@ -71,12 +71,7 @@ impl Levels {
 
     // Puts the routes of the slots from this place on in, where those before it are in. Shorter prefixes are put first, so that the
     // children that longer ones of them will make are not gone through.
-    fn put_from(
-        &mut self,
-        alloc: Global,
-        slots: &[Slot],
-        known: usize,
-    ) -> Result<(), AllocError>
+    fn put_from(&mut self, alloc: Global, slots: &[Slot], known: usize) -> Result<(), AllocError>
         requires few { length slots.now ≤ most_slots }
         requires known { known ≤ length slots.now }
         requires room { HasRoom (length slots.now - known) self.old }
@@ -121,7 +116,9 @@ impl Levels {
         let mut removed = 0;
         for place in 0..slots.len() {
             if let Some((prefix, _)) = slots[place] {
-                if let Some(route) = routes.get(known) && route.0 == prefix {
+                if let Some(route) = routes.get(known)
+                    && route.0 == prefix
+                {
                     slots[place] = Some(*route);
                     known += 1;
                 } else if removed < MOST_REMOVED {
@@ -191,12 +188,7 @@ impl Levels {
     }
 
     // Changes the numbers of the addresses of a prefix.
-    fn put(
-        &mut self,
-        slots: &[Slot],
-        prefix: Prefix,
-        change: Change,
-    ) -> Result<(), AllocError>
+    fn put(&mut self, slots: &[Slot], prefix: Prefix, change: Change) -> Result<(), AllocError>
         requires shape { IsLevels self.old }
         requires room { Spare self.old }
         ensures { IfOk result (λ _. IsPut prefix (changed_by ip4 slots.now change) self.old self.new) }
@@ -251,12 +243,7 @@ impl Levels {
     }
 
     // The same for a prefix of 25 to 32 bits.
-    fn put_long(
-        &mut self,
-        slots: &[Slot],
-        prefix: Prefix,
-        change: Change,
-    ) -> Result<(), AllocError>
+    fn put_long(&mut self, slots: &[Slot], prefix: Prefix, change: Change) -> Result<(), AllocError>
         requires shape { IsLevels self.old }
         requires room { Spare self.old }
         requires longer { 24 < prefix.len }
@@ -387,12 +374,7 @@ impl Mtrie {
     }
 
     // The trie of a table, in this memory, whatever it says.
-    fn anew(
-        levels: Levels,
-        mut slots: Vec<Slot>,
-        alloc: Global,
-        fib: &Fib,
-    ) -> Result<Mtrie, Memory>
+    fn anew(levels: Levels, mut slots: Vec<Slot>, alloc: Global, fib: &Fib) -> Result<Mtrie, Memory>
         ensures { IfOk result (λ trie. trie ≡ fib.now) }
     {
         slots.clear();
@@ -546,13 +528,7 @@ fn raise_second(
 }
 
 // Changes the numbers at so many places of the third level.
-fn raise_third(
-    third: &mut Vec<u16>,
-    slots: &[Slot],
-    change: Change,
-    from: usize,
-    count: usize,
-)
+fn raise_third(third: &mut Vec<u16>, slots: &[Slot], change: Change, from: usize, count: usize)
     requires { from + count ≤ length third.old.items }
     ensures { IsRaised (changed_by ip4 slots.now change) from count third.old.items third.new.items }
 {

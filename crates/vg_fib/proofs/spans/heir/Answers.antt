@@ -15,7 +15,8 @@ loop-place-preserved c =
     let inside : place < length slots = omega (arith, c.loop-place-test.true) in
     elim c.if-is_around.branch [
       | then-is_around w ↦
-          rw (w.heir-is, w.longer_of-heir.ensures) (heir_more are6 slots c.args.prefix place c.loop-place.heir inside (c.is_around.ensures.0 w.if-is_around.true) c.loop-place.invariant)
+          rw (w.heir-is, w.longer_of-heir.ensures) (heir_more are6 slots c.args.prefix place c.loop-place.heir inside
+          (c.is_around.ensures.0 w.if-is_around.true) c.loop-place.invariant)
       | else-is_around w ↦
           rw w.heir-is (heir_skips are6 slots c.args.prefix place c.loop-place.heir inside (iff_false c.is_around.ensures w.if-is_around.false) c.loop-place.invariant)
     ]

@@ -11,7 +11,7 @@ use Rattle.vg_fib.proofs.spans.Spans.follow.Goals.{in-Some+in-Some-get+then-eq, 
 
 pub loop-place-init : goal.loop-place-init
 loop-place-init c =
-    record { same_length = refl; followed = followed_begins c.args.routes.now c.args.slots.now.items; has = c.requires.has; few = omega arith; }
+    record { same_length = refl; followed = followed_begins c.args.routes.now c.args.slots.now.items; has = c.requires.has; few = omega arith }
 
 pub take_out-requires-clause-few : goal.take_out-requires-clause-few
 take_out-requires-clause-few c = omega (arith, c.loop-place.invariant.same_length, c.requires.few)
@@ -72,7 +72,8 @@ loop-place-preserved c =
     ]
 
 pub returns-clause-first : goal.returns-clause-first
-returns-clause-first c = followed_ends c.args.routes.now c.loop-place.known c.loop-place.slots.items c.loop-place.place (omega (arith, c.loop-place-test.false)) c.loop-place.invariant.followed
+returns-clause-first c = followed_ends c.args.routes.now c.loop-place.known c.loop-place.slots.items c.loop-place.place (omega
+    (arith, c.loop-place-test.false)) c.loop-place.invariant.followed
 
 pub returns-clause-has : goal.returns-clause-has
 returns-clause-has c = c.loop-place.invariant.has

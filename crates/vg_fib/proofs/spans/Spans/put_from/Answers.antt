@@ -42,15 +42,18 @@ loop-place-preserved c =
     elim c.if-place-known.branch [
       | then-place-known+in_ok-put_at w ↦
           subst (HasPut slots (empty + c.args.known) (slots_of empty order) (turn + 1)) (sym w.self-is)
-          (put_turn slots (empty + c.args.known) turn (empty + place) (slots_of empty order) c.loop-place.self w.put_at.new.self at inside w.in_ok-put_at.ensures c.loop-place.invariant)
+          (put_turn slots (empty + c.args.known) turn (empty + place) (slots_of empty order)
+          c.loop-place.self w.put_at.new.self at inside w.in_ok-put_at.ensures c.loop-place.invariant)
       | else-place-known w ↦
           subst (HasPut slots (empty + c.args.known) (slots_of empty order) (turn + 1)) (sym w.self-is)
-          (put_skips slots (empty + c.args.known) turn (empty + place) (slots_of empty order) c.loop-place.self at (omega (arith, w.if-place-known.false)) c.loop-place.invariant)
+          (put_skips slots (empty + c.args.known) turn (empty + place) (slots_of empty order) c.loop-place.self at (omega
+          (arith, w.if-place-known.false)) c.loop-place.invariant)
     ]
 
 pub returns : goal.returns
 returns c =
     let slots = c.args.slots.now in
     let empty : ℕ = length slots - length c.routes.result.now in
-    put_ends slots c.args.fib.now (empty + c.args.known) c.loop-place.place-index empty c.order-place-items.result.now c.loop-place.self c.order-place-items.ensures c.loop-place-test.false
+    put_ends slots c.args.fib.now (empty + c.args.known) c.loop-place.place-index empty c.order-place-items.result.now c.loop-place.self
+    c.order-place-items.ensures c.loop-place-test.false
     (omega (arith, ap length c.routes.ensures.routes, c.requires.all)) (omega arith) c.loop-place.invariant

@@ -11,7 +11,15 @@ use Rattle.vg_fib.proofs.trie.Levels.follow.Goals.{in-Some+in-Some-get+then-eq, 
 
 pub loop-place-init : goal.loop-place-init
 loop-place-init c =
-    record { same_length = refl; followed = followed_begins c.args.routes.now c.args.slots.now.items; has = c.requires.has; few = omega arith; second = omega arith; third = omega arith; }
+    record {
+      same_length = refl;
+      followed = followed_begins c.args.routes.now c.args.slots.now.items;
+      has = c.requires.has;
+      few = omega arith;
+      second
+          = omega arith;
+      third = omega arith;
+    }
 
 pub take_out-requires-clause-few : goal.take_out-requires-clause-few
 take_out-requires-clause-few c = omega (arith, c.loop-place.invariant.same_length, c.requires.few)
@@ -86,7 +94,8 @@ loop-place-preserved c =
     ]
 
 pub returns-clause-first : goal.returns-clause-first
-returns-clause-first c = followed_ends c.args.routes.now c.loop-place.known c.loop-place.slots.items c.loop-place.place (omega (arith, c.loop-place-test.false)) c.loop-place.invariant.followed
+returns-clause-first c = followed_ends c.args.routes.now c.loop-place.known c.loop-place.slots.items c.loop-place.place (omega
+    (arith, c.loop-place-test.false)) c.loop-place.invariant.followed
 
 pub returns-clause-has : goal.returns-clause-has
 returns-clause-has c = c.loop-place.invariant.has

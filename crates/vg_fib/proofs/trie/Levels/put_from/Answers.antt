@@ -1,5 +1,4 @@
-use Rattle.std.proofs.Common.{◌≡◌, ℕ, ◌+◌, ◌<◌, length, get_or, refl, sym, subst, arith}
-use Rattle.vg_model.specs.Route.{ip4}
+use Rattle.std.proofs.Common.{◌≡◌, ℕ, ◌<◌, length, get_or, refl, sym, subst, arith}
 use Rattle.vg_fib.specs.Numbers.{AreFrom}
 use Rattle.vg_fib.specs.Trie.{IsPutAt}
 use Rattle.vg_fib.proofs.PrefixLemmas.{are4}
@@ -36,7 +35,8 @@ loop-place-preserved c =
     let here : IsPutAt slots q c.loop-place.self c.put_at.new.self = subst (λ k. IsPutAt slots k c.loop-place.self c.put_at.new.self) c.from.ensures put in
     record {
       shape = put.shape;
-      numbers = λ address bound. number_after_turn are4 slots c.args.known turn q address _ _ order refl inside (before.numbers address bound) (here.numbers address bound);
+      numbers = λ address bound. number_after_turn are4 slots c.args.known turn q address _ _ order refl inside (before.numbers address bound)
+          (here.numbers address bound);
       second = omega (arith, put.second_grows, before.second);
       third = omega (arith, put.third_grows, before.third);
     }

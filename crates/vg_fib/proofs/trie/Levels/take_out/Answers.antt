@@ -11,7 +11,9 @@ use Rattle.vg_fib.proofs.trie.Levels.take_out.Goals as goal
 pub returns-clause-has : goal.returns-clause-has
 returns-clause-has c =
     let left = set c.args.slots.now.items c.args.place None in
-    let heir : IsHeir ip4 left c.args.prefix c.heir-heir.result = subst (λ xs. IsHeir ip4 xs c.args.prefix c.heir-heir.result) c.as_slice.ensures.value c.heir-heir.ensures in
+    let heir : IsHeir ip4 left c.args.prefix c.heir-heir.result = subst (λ xs. IsHeir ip4 xs c.args.prefix c.heir-heir.result) c.as_slice.ensures.value
+    c.heir-heir.ensures in
     let put : IsPut c.args.prefix (changed_by ip4 left (Goes (c.args.place + 1) c.heir-heir.result)) c.args.self.now c.put.new.self =
-    subst (λ xs. IsPut c.args.prefix (changed_by ip4 xs (Goes (c.args.place + 1) c.heir-heir.result)) c.args.self.now c.put.new.self) c.as_slice-2.ensures.value c.in_ok-put.ensures in
+    subst (λ xs. IsPut c.args.prefix (changed_by ip4 xs (Goes (c.args.place + 1) c.heir-heir.result)) c.args.self.now c.put.new.self)
+    c.as_slice-2.ensures.value c.in_ok-put.ensures in
     levels_after c.args.slots.now.items c.args.place c.heir-heir.result c.args.prefix c.args.self.now c.put.new.self c.requires.stands heir c.requires.has put
