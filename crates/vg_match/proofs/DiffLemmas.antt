@@ -5,7 +5,6 @@ use Rattle.std.proofs.lemmas.List.{map-append, get_or-map, length-map}
 use Rattle.std.proofs.lemmas.Simd.{map-map}
 use Rattle.std.proofs.lemmas.List.Elements.{All-map, All-append, All-weaker, All-cons, All-nil, All-tail, All-head}
 use Rattle.std.proofs.lemmas.List.Sorted.{IsPermutation-refl, IsPermutation-map, IsPermutation-trans, IsPermutation-append_right, All-permutation}
-use Rattle.vg_match.specs.declared.diffs.Diff.{Diff}
 use Rattle.vg_match.specs.declared.diffs.Matched.{Matched}
 use Rattle.vg_match.specs.declared.fields.Field.{Field}
 use Rattle.vg_match.specs.declared.keys.Likeness.{Likeness}
@@ -13,7 +12,7 @@ use Rattle.vg_match.specs.declared.keys.Likeness.TheVariants.{Datagram, Payload}
 use Rattle.vg_match.specs.declared.matching.Entry.{Entry}
 use Rattle.vg_match.specs.declared.matching.Matching.{Matching}
 use Rattle.vg_match.specs.Keys.{compared, joined, parts_of, likeness_of}
-use Rattle.vg_match.specs.Matching.{Pair, wanted_of, got_of, AreEqual, AreApart, IsMatchingOf}
+use Rattle.vg_match.specs.Matching.{Pair, wanted_of, got_of, IsMatchingOf}
 use Rattle.vg_match.specs.Frames.{layout_of}
 use Rattle.vg_match.specs.declared.ranges.Range.{Range}
 use Rattle.vg_match.specs.declared.sides.Side.{Side}

@@ -6,7 +6,7 @@ use Rattle.vg_match.specs.declared.fields.Field.{Field}
 use Rattle.vg_match.specs.declared.fields.Field.TheVariants as fields
 use Rattle.vg_match.specs.declared.fields.Span.{Span}
 use Rattle.vg_match.specs.declared.frames.Carried.{Carried}
-use Rattle.vg_match.specs.declared.frames.Carried.TheVariants.{Ip4, Ip6, Other}
+use Rattle.vg_match.specs.declared.frames.Carried.TheVariants.{Ip4, Ip6}
 use Rattle.vg_match.specs.declared.frames.Layout.{Layout}
 
 -- the fields in their order

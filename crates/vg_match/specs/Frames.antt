@@ -1,5 +1,5 @@
 -- Where in an Ethernet frame its parts stand (IEEE 802.3, IEEE 802.1Q; RFC 791, section 3.1; RFC 8200, section 3), in bytes from its first.
-use Rattle.std.specs.Prelude.{ℕ, ◌+◌, ◌*◌, ◌%◌, ◌≤◌, IfSome, Bool, not, ◌&&◌, ◌||◌, ◌==◌, nat_lt, nat_le, max, List, length, take, drop, slice_index, Option, Some, None, if◌then◌else◌}
+use Rattle.std.specs.Prelude.{ℕ, ◌+◌, ◌*◌, ◌%◌, ◌≤◌, IfSome, Bool, not, ◌&&◌, ◌||◌, ◌==◌, nat_lt, nat_le, max, List, length, take, slice_index, Option, Some, None, if◌then◌else◌}
 use Rattle.vg_model.specs.Bytes.{number16_at}
 use Rattle.vg_match.specs.declared.frames.Carried.{Carried}
 use Rattle.vg_match.specs.declared.frames.Carried.TheVariants.{Ip4, Ip6, Other}

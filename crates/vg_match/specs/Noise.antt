@@ -1,7 +1,7 @@
 -- Packets by which hosts find their neighbors (RFC 826; RFC 4861, section 4).
 use Rattle.std.specs.Prelude.{ℕ, ◌+◌, Bool, false, ◌&&◌, ◌||◌, ◌==◌, nat_le, List, length, slice_index}
 use Rattle.vg_match.specs.declared.frames.Carried.{Carried}
-use Rattle.vg_match.specs.declared.frames.Carried.TheVariants.{Ip4, Ip6, Other}
+use Rattle.vg_match.specs.declared.frames.Carried.TheVariants.{Ip6}
 use Rattle.vg_match.specs.Frames.{carries, layout_of}
 
 -- ICMPv6 from a place on, of a type from router solicitation to redirect

@@ -6,7 +6,7 @@ use Rattle.vg_match.specs.declared.keys.Likeness.{Likeness}
 use Rattle.vg_match.specs.declared.matching.Entry.{Entry}
 use Rattle.vg_match.specs.declared.sides.Side.{Side}
 use Rattle.vg_match.specs.Frames.{layout_of}
-use Rattle.vg_match.specs.Keys.{compared, joined, parts_of, likeness_of}
+use Rattle.vg_match.specs.Keys.{compared, joined, parts_of}
 use Rattle.vg_match.specs.declared.ranges.Range.{Range}
 use Rattle.vg_match.specs.Noise.{is_noise}
 use Rattle.vg_match.specs.Ranges.{is_in_reach}

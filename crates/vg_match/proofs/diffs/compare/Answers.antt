@@ -1,5 +1,5 @@
 use Rattle.std.proofs.Common.{ℕ, ◌<◌, length, All, sym, subst, ◌∙◌}
-use Rattle.vg_match.specs.Keys.{compared, likeness_of}
+use Rattle.vg_match.specs.Keys.{likeness_of}
 use Rattle.vg_match.specs.declared.keys.Likeness.TheVariants.{Datagram, Payload}
 use Rattle.vg_match.specs.Sides.{seen, meant_numbers}
 use Rattle.vg_match.specs.Diffs.{Packets, IsDiff}

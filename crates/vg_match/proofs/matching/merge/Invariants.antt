@@ -1,5 +1,5 @@
 use Rattle.std.proofs.Common.{◌+◌, ◌-◌, ◌≤◌, length, drop}
-use Rattle.vg_match.proofs.MergeLemmas.{Pass, IsPass}
+use Rattle.vg_match.proofs.MergeLemmas.{IsPass}
 use Rattle.vg_match.proofs.matching.merge.Given as goal
 
 abbrev pub invariant-loop-next : goal.invariant-loop-next

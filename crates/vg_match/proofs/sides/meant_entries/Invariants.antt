@@ -1,6 +1,6 @@
-use Rattle.std.proofs.Common.{◌≡◌, ◌≤◌, [], ◌++◌, length, map, take, drop, All}
+use Rattle.std.proofs.Common.{◌≡◌, ◌++◌, map, drop, All}
 use Rattle.vg_match.specs.Keys.{compared}
-use Rattle.vg_match.specs.Sides.{seen, number_of, key_of, meant_numbers, IsOf, alike_at}
+use Rattle.vg_match.specs.Sides.{seen, number_of, meant_numbers, IsOf}
 use Rattle.vg_match.proofs.sides.meant_entries.Given as goal
 
 abbrev pub invariant-loop-number : goal.invariant-loop-number

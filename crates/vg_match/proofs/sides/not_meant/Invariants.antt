@@ -1,4 +1,4 @@
-use Rattle.std.proofs.Common.{◌≡◌, ◌+◌, ◌≤◌, length, drop}
+use Rattle.std.proofs.Common.{◌≡◌, ◌+◌, ◌≤◌, drop}
 use Rattle.vg_match.specs.Sides.{seen, left_out}
 use Rattle.vg_match.proofs.sides.not_meant.Given as goal
 
