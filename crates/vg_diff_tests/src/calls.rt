@@ -124,7 +124,7 @@ fn padded<R: AllocGlobal>(rt: &R, frame: &[u8]) -> Result<Vec<u8>, Fail> {
 }
 
 /// The status and the printed text, where these frames had to come and those did, in one savefile.
-fn told_of<R: AllocGlobal>(
+fn compare_with<R: AllocGlobal>(
     rt: &R,
     options: &[&str],
     wanted: &[&[u8]],
@@ -144,16 +144,20 @@ fn told_of<R: AllocGlobal>(
 }
 
 /// The same where FIRST and SECOND had to come.
-fn told<R: AllocGlobal>(rt: &R, options: &[&str], frames: &[&[u8]]) -> Result<(u8, Vec<u8>), Fail> {
-    told_of(rt, options, &[&FIRST, &SECOND], frames)
+fn compare<R: AllocGlobal>(
+    rt: &R,
+    options: &[&str],
+    frames: &[&[u8]],
+) -> Result<(u8, Vec<u8>), Fail> {
+    compare_with(rt, options, &[&FIRST, &SECOND], frames)
 }
 
 #[test]
 fn equal_sets_match_in_any_order(rt: HostRuntime) -> Result<(), Fail> {
-    let (status, text) = told(&rt, &[], &[&FIRST, &SECOND])?;
+    let (status, text) = compare(&rt, &[], &[&FIRST, &SECOND])?;
     assert_eq!(rt; status, 0);
     assert!(rt; text.as_slice() == b"same 2\nreordered 0\nnoise 0 0\nend\n".as_slice());
-    let (status, text) = told(&rt, &[], &[&SECOND, &FIRST])?;
+    let (status, text) = compare(&rt, &[], &[&SECOND, &FIRST])?;
     assert_eq!(rt; status, 0);
     assert!(rt; text.as_slice() == b"same 2\nreordered 1\nnoise 0 0\nend\n".as_slice());
     Ok(())
@@ -162,7 +166,7 @@ fn equal_sets_match_in_any_order(rt: HostRuntime) -> Result<(), Fail> {
 #[test]
 fn padding_and_noise_do_not_count(rt: HostRuntime) -> Result<(), Fail> {
     let first = padded(&rt, &FIRST)?;
-    let (status, text) = told(&rt, &[], &[&ARP, first.as_slice(), &SECOND])?;
+    let (status, text) = compare(&rt, &[], &[&ARP, first.as_slice(), &SECOND])?;
     assert_eq!(rt; status, 0);
     assert!(rt; text.as_slice() == b"same 2\nreordered 0\nnoise 0 1\nend\n".as_slice());
     Ok(())
@@ -171,12 +175,12 @@ fn padding_and_noise_do_not_count(rt: HostRuntime) -> Result<(), Fail> {
 #[test]
 fn a_ttl_that_was_not_lowered_is_found(rt: HostRuntime) -> Result<(), Fail> {
     let other = changed(&rt, &SECOND, 22, 64)?;
-    let (status, text) = told(&rt, &[], &[&FIRST, other.as_slice()])?;
+    let (status, text) = compare(&rt, &[], &[&FIRST, other.as_slice()])?;
     assert_eq!(rt; status, 9);
     assert!(rt;
         text.as_slice() == b"same 1\nchanged 2 ttl 3f 40\nreordered 0\nnoise 0 0\nend\n".as_slice()
     );
-    let (status, text) = told(&rt, &["--brief"], &[&FIRST, other.as_slice()])?;
+    let (status, text) = compare(&rt, &["--brief"], &[&FIRST, other.as_slice()])?;
     assert_eq!(rt; status, 9);
     assert!(rt;
         text.as_slice()
@@ -188,7 +192,7 @@ fn a_ttl_that_was_not_lowered_is_found(rt: HostRuntime) -> Result<(), Fail> {
 #[test]
 fn classes_have_an_example_each(rt: HostRuntime) -> Result<(), Fail> {
     let other = changed(&rt, &SECOND, 22, 64)?;
-    let (status, text) = told(&rt, &["--classes"], &[other.as_slice(), &ASTRAY])?;
+    let (status, text) = compare(&rt, &["--classes"], &[other.as_slice(), &ASTRAY])?;
     assert_eq!(rt; status, 9);
     assert!(rt;
         text.as_slice()
@@ -200,9 +204,9 @@ fn classes_have_an_example_each(rt: HostRuntime) -> Result<(), Fail> {
 #[test]
 fn a_field_may_be_ignored(rt: HostRuntime) -> Result<(), Fail> {
     let other = changed(&rt, &SECOND, 22, 64)?;
-    let (status, _) = told(&rt, &["--ignore", "ttl"], &[&FIRST, other.as_slice()])?;
+    let (status, _) = compare(&rt, &["--ignore", "ttl"], &[&FIRST, other.as_slice()])?;
     assert_eq!(rt; status, 0);
-    let (status, _) = told(&rt, &["--ignore", "checksum"], &[&FIRST, other.as_slice()])?;
+    let (status, _) = compare(&rt, &["--ignore", "checksum"], &[&FIRST, other.as_slice()])?;
     assert_eq!(rt; status, 9);
     Ok(())
 }
@@ -211,7 +215,7 @@ fn a_field_may_be_ignored(rt: HostRuntime) -> Result<(), Fail> {
 fn fields_of_ip6_and_of_a_tag_are_named(rt: HostRuntime) -> Result<(), Fail> {
     let six = changed(&rt, &SIX, 21, 64)?;
     let tagged = changed(&rt, &TAGGED, 15, 11)?;
-    let (status, text) = told_of(
+    let (status, text) = compare_with(
         &rt,
         &[],
         &[&SIX, &TAGGED],
@@ -228,22 +232,22 @@ fn fields_of_ip6_and_of_a_tag_are_named(rt: HostRuntime) -> Result<(), Fail> {
 #[test]
 fn the_comparison_may_be_limited_to_prefixes(rt: HostRuntime) -> Result<(), Fail> {
     let only = ["--only", "2001:db8::2/128"];
-    let (status, text) = told_of(&rt, &only, &[&SIX, &FIRST], &[&SIX])?;
+    let (status, text) = compare_with(&rt, &only, &[&SIX, &FIRST], &[&SIX])?;
     assert_eq!(rt; status, 0);
     assert!(rt; text.as_slice() == b"same 1\nreordered 0\nnoise 1 0\nend\n".as_slice());
     let only = ["--only", "10.0.0.1/32"];
-    let (status, text) = told_of(&rt, &only, &[&SIX, &FIRST], &[&SIX])?;
+    let (status, text) = compare_with(&rt, &only, &[&SIX, &FIRST], &[&SIX])?;
     assert_eq!(rt; status, 9);
     assert!(rt; text.as_slice() == b"same 0\nmissing 2\nreordered 0\nnoise 1 1\nend\n".as_slice());
-    let (status, _) = told_of(&rt, &["--only", "10.0.0.1"], &[&FIRST, &SECOND], &[&FIRST])?;
+    let (status, _) = compare_with(&rt, &["--only", "10.0.0.1"], &[&FIRST, &SECOND], &[&FIRST])?;
     assert_eq!(rt; status, 2);
     Ok(())
 }
 
 #[test]
-fn a_checksum_alone_is_told(rt: HostRuntime) -> Result<(), Fail> {
+fn a_checksum_alone_is_found(rt: HostRuntime) -> Result<(), Fail> {
     let other = changed(&rt, &FIRST, 24, 0)?;
-    let (status, text) = told(&rt, &[], &[&SECOND, other.as_slice()])?;
+    let (status, text) = compare(&rt, &[], &[&SECOND, other.as_slice()])?;
     assert_eq!(rt; status, 9);
     assert!(rt;
         text.as_slice()
@@ -254,12 +258,12 @@ fn a_checksum_alone_is_told(rt: HostRuntime) -> Result<(), Fail> {
 
 #[test]
 fn one_twice_is_extra_and_one_missing_is_missing(rt: HostRuntime) -> Result<(), Fail> {
-    let (status, text) = told(&rt, &[], &[&FIRST, &SECOND, &FIRST])?;
+    let (status, text) = compare(&rt, &[], &[&FIRST, &SECOND, &FIRST])?;
     assert_eq!(rt; status, 9);
     assert!(rt;
         text.as_slice() == b"same 2\nextra 2 0:3\nreordered 0\nnoise 0 0\nend\n".as_slice()
     );
-    let (status, text) = told(&rt, &[], &[&SECOND])?;
+    let (status, text) = compare(&rt, &[], &[&SECOND])?;
     assert_eq!(rt; status, 9);
     assert!(rt;
         text.as_slice()
@@ -269,16 +273,16 @@ fn one_twice_is_extra_and_one_missing_is_missing(rt: HostRuntime) -> Result<(), 
 }
 
 #[test]
-fn a_dropped_one_that_came_is_told(rt: HostRuntime) -> Result<(), Fail> {
+fn a_dropped_one_that_came_is_found(rt: HostRuntime) -> Result<(), Fail> {
     let sent = changed(&rt, &ASTRAY, 22, 63)?;
     let frames: &[&[u8]] = &[&FIRST, sent.as_slice(), &SECOND];
-    let (status, text) = told(&rt, &["--capture", "c"], frames)?;
+    let (status, text) = compare(&rt, &["--capture", "c"], frames)?;
     assert_eq!(rt; status, 9);
     assert!(rt;
         text.as_slice()
             == b"same 2\ndropped-but-there 1 ip4-lookup no-route 0:2\nreordered 0\nnoise 0 0\nend\n".as_slice()
     );
-    let (status, text) = told(&rt, &[], frames)?;
+    let (status, text) = compare(&rt, &[], frames)?;
     assert_eq!(rt; status, 9);
     assert!(rt;
         text.as_slice() == b"same 2\nextra 1 0:2\nreordered 0\nnoise 0 0\nend\n".as_slice()
