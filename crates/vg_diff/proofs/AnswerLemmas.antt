@@ -1,8 +1,8 @@
 -- For the clauses of `due_of`, `compared` and `answer`: a comparison's status and text.
-use Rattle.std.proofs.Common.{◌≡◌, ◌↔◌, ◌⊎◌, ℕ, ◌+◌, List, ◌++◌, length, subst, sym, arith, length-append}
+use Rattle.std.proofs.Common.{◌≡◌, ◌↔◌, ◌⊎◌, ℕ, ◌+◌, List, ◌++◌, length, subst, arith, length-append}
 use Rattle.std.proofs.lemmas.List.{length-map}
 use Rattle.std.proofs.lemmas.List.Sorted.{length_permutation}
-use Rattle.vg_match.specs.Diffs.{Packets, IsDiff, AllMatch, firsts, seconds}
+use Rattle.vg_match.specs.Diffs.{AllMatch, firsts, seconds}
 use Rattle.vg_match.specs.Sides.{left_out, meant_numbers}
 use Rattle.vg_match.proofs.ExactLemmas.{exact}
 use Rattle.vg_match.proofs.SideLemmas.{out_or_named}

@@ -1,10 +1,9 @@
 -- The lines that are printed.
-use Rattle.std.specs.Prelude.{◌≡◌, ℕ, suc, ◌+◌, ◌-◌, Bool, ◌==◌, nat_le, List, [], ◌∷◌, ◌++◌, length, map, flat_map, filter, slice_get, codes, decimal, Option, Some, None, if◌then◌else◌}
+use Rattle.std.specs.Prelude.{◌≡◌, ℕ, suc, ◌+◌, ◌-◌, ◌==◌, nat_le, List, [], ◌∷◌, ◌++◌, length, map, flat_map, filter, slice_get, codes, decimal, Option, Some, None, if◌then◌else◌}
 use Rattle.std.specs.Borrow.{Bor}
 use Rattle.std.specs.Option.{option_map_or}
 use Rattle.std.specs.List.Sorted.{IsPermutation, IsNonDecreasingBy}
 use Rattle.vg_match.specs.declared.fields.Field.{Field}
-use Rattle.vg_match.specs.declared.fields.Span.{Span}
 use Rattle.vg_match.specs.declared.diffs.Diff.{Diff}
 use Rattle.vg_match.specs.declared.frames.Layout.{Layout}
 use Rattle.vg_match.specs.Fields.{field_name, field_at, span_of, span}
@@ -175,7 +174,7 @@ abbrev pub last_lines : (reordered : ℕ) → ℕ × ℕ → List ℕ
 last_lines reordered noise =
     count_line (codes "reordered") reordered ++ (codes "noise " ++ (decimal noise.0 ++ (32 ∷ (decimal noise.1 ++ (10 ∷ (codes "end" ++ 10 ∷ []))))))
 
--- the text that tells what was found
+-- the text that says what was found
 pub record IsText (manner : Manner) (found : Findings) (text : List ℕ) : Type 0 where
   pub body : List ℕ
   pub is_body : IsBody manner found body

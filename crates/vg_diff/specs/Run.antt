@@ -23,11 +23,11 @@ use Rattle.vg_diff.specs.Orders.{AreReordered}
 
 -- ---- what is printed
 
--- where the sink tells its bytes, these were added
+-- where the sink's bytes are known, these were added
 abbrev pub Appends : Option (List ℕ) → Option (List ℕ) → List ℕ → Type 0
 Appends before after bytes = after ≡ option_map (λ all. all ++ bytes) before
 
--- where the sink tells its bytes, a front of these was added that is not all of them
+-- where the sink's bytes are known, a front of these was added that is not all of them
 abbrev pub AppendsFront : Option (List ℕ) → Option (List ℕ) → List ℕ → Type 0
 AppendsFront before after bytes = (n : ℕ) × (n < length bytes) × Appends before after (take n bytes)
 

@@ -1,5 +1,5 @@
 -- The words of what is printed.
-use Rattle.std.specs.Prelude.{ℕ, ◌/◌, ◌%◌, List, [], ◌∷◌, ◌++◌, flat_map, codes, decimal}
+use Rattle.std.specs.Prelude.{ℕ, ◌/◌, ◌%◌, List, [], ◌∷◌, ◌++◌, flat_map, decimal}
 use Rattle.std.specs.Char.{digit_char}
 
 -- a byte as two hexadecimal digits

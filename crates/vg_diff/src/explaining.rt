@@ -41,7 +41,7 @@ pub fn explain_diff<R: Eprint + AllocGlobal>(rt: &R, words: &[&str], status: u8)
     let found = found(status);
     eprintln!(rt; "vgdiff: {found}")?;
     if status == 2 {
-        eprintln!(rt; "`vgdiff --help` tells all words")?;
+        eprintln!(rt; "`vgdiff --help` prints all words")?;
     }
     Ok(())
 }

@@ -142,7 +142,7 @@ pub fn transmitted(report: &Report) -> usize {
     count
 }
 
-// Whether a report tells of as many packets as there are.
+// Whether a report has as many packets as there are.
 fn is_of(report: &Report, tx: &Capture, capture: &Option<Capture>) -> bool {
     let known = match capture {
         Some(capture) => capture.packets.len() == report.packets.len(),

@@ -20,7 +20,7 @@ pub enum Refusal<'a> {
     Report(ReportError),
     /// The script is not one that makes a graph.
     Script(ScriptError),
-    /// The report tells of another number of packets than the capture has, or than were transmitted.
+    /// The report has another number of packets than the capture, or than were transmitted.
     Packets,
 }
 
@@ -60,7 +60,7 @@ impl Refusal<'_> {
         }
     }
 
-    /// The line that tells the user: the cause in one word, and then where.
+    /// The line for the user: the cause in one word, and then where.
     ///
     /// # Errors
     ///

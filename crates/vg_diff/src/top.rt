@@ -27,7 +27,7 @@ pub struct Due {
     pub text: Vec<u8>,
 }
 
-// The status that tells whether all packets match.
+// The status that says whether all packets match.
 fn status_of(diff: &Diff) -> u8
     ensures either { (result ≡ 0) ⊎ (result ≡ 9) }
     ensures all { (result ≡ 0) ↔ AllMatch diff.now }

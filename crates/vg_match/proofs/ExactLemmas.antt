@@ -39,7 +39,7 @@ none_apart (x ∷ xs) ys same apart =
     let both : (0 + is_key x x) + sum_by (is_key x) xs ≡ sum_by (is_key x) ys = sym (sum_by-append (is_key x) (x ∷ []) xs) ∙ same x in
     absurd (omega (arith, few, one, both))
 
--- the same, told from the other side
+-- the same, seen from the other side
 turned_apart : (xs ys : List (List ℕ)) → All (λ x. All (λ y. x ≢ y) ys) xs → All (λ y. All (λ x. y ≢ x) xs) ys
 turned_apart xs ys apart = λ j e within k d below same. apart k d below j e within (sym same)
 

@@ -62,7 +62,7 @@ below_all w g gs less rises =
     up (nat_list_cmp_total.antisymm g.key.now y.key.now ∙ ap ordering_reverse down))
     gs (first_rises g gs rises))
 
--- a key that is less than the first of those that never fall is none of them, told from the other side
+-- a key that is less than the first of those that never fall is none of them, seen from the other side
 above_none : (w g : Entry) (ws : List Entry) → slice_cmp nat_cmp w.key.now g.key.now ≡ Greater → Rises (w ∷ ws) → All (λ (x : Entry). x.key.now ≢ g.key.now) (w ∷ ws)
 above_none w g ws greater rises =
     All-cons (λ (x : Entry). x.key.now ≢ g.key.now) w ws

@@ -25,7 +25,7 @@ carries kind header frame = nat_le (type_at frame + 2 + header) (length frame) &
 abbrev pub carried_by : List ℕ → Carried
 carried_by frame = if carries 0x0800 20 frame then Ip4 else if carries 0x86dd 40 frame then Ip6 else Other
 
--- where the payload begins of what is carried from a place on: behind the IPv4 header, whose length is told in words of four bytes, or the
+-- where the payload begins of what is carried from a place on: behind the IPv4 header, whose length is given in words of four bytes, or the
 -- IPv6 header
 abbrev pub payload_of : Carried → ℕ → List ℕ → ℕ
 payload_of Ip4 at frame = at + max 20 (4 * (slice_index frame at % 16))

@@ -40,7 +40,7 @@ abbrev pub from : List ℕ → Option ℕ → List ℕ
 from bytes None = []
 from bytes (Some at) = drop at bytes
 
--- a number that tells IPv4, IPv6 and others apart, three spans, and all from a place on
+-- a number for IPv4, IPv6 or others, three spans, and all from a place on
 abbrev pub parts : (version : ℕ) → (first second third : Span) → Option ℕ → Parts
 parts version first second third rest = record { version = version; first = first; second = second; third = third; rest = rest }
 

@@ -1,4 +1,4 @@
-use Rattle.std.proofs.Common.{◌∙◌, arith}
+use Rattle.std.proofs.Common.{◌∙◌}
 use Rattle.vg_diff.proofs.InputLemmas.{captures_more}
 use Rattle.vg_diff.proofs.input.load_all.Goals as goal
 

@@ -1,4 +1,4 @@
-use Rattle.std.proofs.Common.{◌≡◌, ◌+◌, ◌≤◌, length, drop}
+use Rattle.std.proofs.Common.{◌≡◌, ◌+◌, drop}
 use Rattle.vg_diff.specs.Lines.{common_front}
 use Rattle.vg_diff.proofs.lines.common_front.Given as goal
 

@@ -1,4 +1,4 @@
-use Rattle.std.proofs.Common.{map, subst, ap, ◌∙◌, sym}
+use Rattle.std.proofs.Common.{map, subst, ap, ◌∙◌}
 use Rattle.std.specs.List.Sorted.{IsPermutation}
 use Rattle.std.proofs.lemmas.List.Sorted.{IsPermutation-map}
 use Rattle.vg_diff.specs.Orders.{coming, coming_of, late}

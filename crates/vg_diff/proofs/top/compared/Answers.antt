@@ -1,7 +1,7 @@
 use Rattle.std.proofs.Common.{ap, ◌∙◌}
 use Rattle.std.proofs.lemmas.Result.{IfOk-weaker}
 use Rattle.vg_match.specs.Sides.{seen}
-use Rattle.vg_diff.specs.Run.{all_bytes, compared_in, IsAnswer}
+use Rattle.vg_diff.specs.Run.{all_bytes}
 use Rattle.vg_diff.proofs.AnswerLemmas.{answers_at}
 use Rattle.vg_diff.proofs.top.compared.Goals as goal
 
