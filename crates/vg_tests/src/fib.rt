@@ -201,8 +201,8 @@ fn build_in_order(
     assert!(rt; trie_finds(&trie, 0x0a01_0204, Some(via(1))));
     assert!(rt; trie_finds(&trie, 0x0a01_0280, Some(via(2))));
     assert!(rt; trie_finds(&trie, 0x0a01_7fff, Some(via(0))));
-    assert!(rt; trie_finds(&trie, 0x0a01_8000, default));
-    assert!(rt; trie_finds(&trie, 0xffff_ffff, default));
+    assert!(rt; trie.find(0x0a01_8000) == default);
+    assert!(rt; trie.find(0xffff_ffff) == default);
     Ok(())
 }
 
