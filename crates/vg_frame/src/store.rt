@@ -1,5 +1,5 @@
 //! The frames that wait for nodes.
-ghost use Rattle.std.specs.Prelude.{◌≡◌, ◌<◌, ◌≤◌, IfOk, MatchOption, [], ◌∷◌, ◌++◌, length, replicate, slice_set};
+ghost use Rattle.std.specs.Prelude.{◌≡◌, ◌+◌, ◌<◌, ◌≤◌, IfOk, MatchOption, [], ◌∷◌, ◌++◌, length, map, replicate, slice_set};
 ghost use Rattle.vg_frame.specs.Pending.{pending_at, pending_count, most_pending, IsNothingPending, TakesFrame};
 ghost use Rattle.vg_frame.specs.Waiting.{most_nodes};
 
@@ -59,6 +59,7 @@ impl FrameStore {
     }
 
     /// The index waits for the node, behind those that wait for it already.
+    #[inline]
     pub fn put(&mut self, node: u16, index: u32)
         requires node { node < length self.old }
         requires room { pending_count self.old < most_pending }
@@ -66,6 +67,18 @@ impl FrameStore {
     {
         self.queues[node as usize].push(index, &mut self.spares);
         self.busy.insert(node);
+    }
+
+    /// The indexes of these entries wait for the node, in their order, behind those that wait for it already.
+    #[inline]
+    pub fn put_each<T: Copy>(&mut self, node: u16, entries: &[(u32, T)])
+        requires node { node < length self.old }
+        requires room { pending_count self.old + length entries.now ≤ most_pending }
+        ensures { self.new ≡ slice_set self.old node (pending_at self.old node ++ map (λ entry. entry.0) entries.now) }
+    {
+        for (index, _) in entries {
+            self.put(node, *index);
+        }
     }
 
     /// Takes the oldest frame of the lowest node for which any index waits, and says which node: the first 256 indexes, or all

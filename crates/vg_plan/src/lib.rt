@@ -8,7 +8,7 @@
 #![tactic(auto)]
 
 mod books;
-mod events;
+pub mod events;
 mod generations;
 pub mod laws;
 pub mod masters;

@@ -1,8 +1,8 @@
 //! Tests of values and tables, captures, graphs, plans and reports, a module for each crate, over the built libraries. They stand in a
 //! crate of tests alone, since a crate that has tests is proved twice.
 //!
-//! In which order to read: `model`, `capture`, `load`, `graph`, `fib`, `fib6`, `plan`, `plan_routes`, `process`, `packet`, `fates`,
-//! `report`, `draw`.
+//! In which order to read: `model`, `capture`, `savefile`, `load`, `graph`, `fib`, `fib6`, `plan`, `plan_routes`, `process`, `packet`,
+//! `fates`, `report`, `draw`.
 #![tactic(auto)]
 
 #[cfg(test)]
@@ -31,3 +31,5 @@ mod plan_routes;
 mod process;
 #[cfg(test)]
 mod report;
+#[cfg(test)]
+mod savefile;

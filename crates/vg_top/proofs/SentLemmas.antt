@@ -1,10 +1,8 @@
--- For `savefile_of` and `forward`: packets sent, one by one.
-use Rattle.std.proofs.Common.{◌≡◌, ℕ, ◌+◌, ◌<◌, ◌≤◌, ◌^◌, List, [], ◌∷◌, ◌++◌, length, map, take, sym, ap, subst, ◌∙◌, arith}
-use Rattle.std.specs.Prelude.{Some, slice_get, flat_map, All}
+-- For `forward`: the numbers and lengths of packets sent.
+use Rattle.std.proofs.Common.{◌≡◌, ℕ, ◌+◌, ◌<◌, ◌≤◌, ◌^◌, List, [], ◌∷◌, length, map, sym, subst, arith}
+use Rattle.std.specs.Prelude.{All}
 use Rattle.std.specs.List.{AllByRecursion, cons_option}
-use Rattle.std.proofs.lemmas.List.{append-nil}
 use Rattle.std.proofs.lemmas.List.Elements.{All-from_recursion}
-use Rattle.std.proofs.lemmas.Grind.{flat_map-append}
 use Rattle.vg_model.specs.declared.fates.Fate.{Fate}
 use Rattle.vg_model.specs.declared.fates.End.{End}
 use Rattle.vg_model.specs.declared.fates.End.TheVariants as ends
@@ -14,18 +12,8 @@ use Rattle.vg_model.specs.declared.routes.RouteTo.{RouteTo}
 use Rattle.vg_model.specs.Graph.{Graph, with_routes}
 use Rattle.vg_model.specs.Leg.{Outcome, Sent, Dropped, Handed}
 use Rattle.vg_model.specs.Journey.{Journey, longest_extent, sent, sent_as, fate_of, fates, end_of}
-use Rattle.vg_capture.specs.declared.captures.Captured.{Captured}
-use Rattle.vg_capture.specs.Savefile.{sent_in}
 use Rattle.vg_journeys.specs.Ends.{IsEndIn}
-use Rattle.vg_reporting.proofs.CountLemmas.{next_entry}
 use Rattle.vg_check.proofs.JourneyLemmas.{IsOwn}
-
--- one packet more
-pub records_more : (packets : List Captured) (sent : List (ℕ × List ℕ)) (k : ℕ) (packet : ℕ × List ℕ) → slice_get sent k ≡ Some packet
-    → flat_map (sent_in packets) (take (k + 1) sent) ≡ flat_map (sent_in packets) (take k sent) ++ sent_in packets packet
-records_more packets sent k packet there =
-    ap (flat_map (sent_in packets)) (next_entry sent k packet there) ∙ flat_map-append (sent_in packets) (take k sent) (packet ∷ [])
-    ∙ ap (λ more. flat_map (sent_in packets) (take k sent) ++ more) (append-nil (sent_in packets packet))
 
 -- what was sent of journeys has numbers below so many
 sent_number : (n number : ℕ) (bytes : List ℕ) (o : Outcome) (rest : List (ℕ × List ℕ)) → number < n → AllByRecursion (λ (p : ℕ × List ℕ). p.0 < n) rest

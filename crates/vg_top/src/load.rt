@@ -82,6 +82,7 @@ pub fn run_both<R: Wait + Threads + Sync, G: Gate>(
 ) -> Result<(Counts, Counts), Memory>
     requires packets { load.now.packets ≤ 65536 }
     requires workers { (1 ≤ load.now.workers) × (load.now.workers ≤ 8) }
+    ensures plain { IfOk result (λ counts. (counts.0.ended ≡ load.now.packets) × (counts.0.buffers ≡ 4096)) }
     ensures ended { IfOk result (λ counts. counts.1.ended ≡ load.now.packets) }
     ensures buffers { IfOk result (λ counts. counts.1.buffers ≡ 4096) }
 {

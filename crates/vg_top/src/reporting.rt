@@ -31,7 +31,7 @@ pub fn report(
 {
     let Outcome {
         fates,
-        sent,
+        sent: _,
         counts,
         trace,
         buffers: _,
@@ -40,8 +40,6 @@ pub fn report(
         rests,
         seat,
     } = outcome;
-    // They were written; the report's text takes their memory.
-    drop(sent);
     let report = Report {
         workers: options.workers,
         buffers: settled.len(),

@@ -1,7 +1,6 @@
 //! A run: from the words to the status and the text that are due.
 ghost use Rattle.std.specs.Prelude.{◌≡◌, ◌<◌, ◌≤◌, ◌^◌, ℕ, List, [], false, length, All, None, option_map, unwrap_or, IfOk, OnErr};
 ghost use Rattle.vg_files.specs.Kinds.{vgd_visit};
-ghost use Rattle.vg_capture.specs.Savefile.{savefile};
 ghost use Rattle.vg_plan.specs.Plan.{first_generation};
 ghost use Rattle.vg_dispatch.specs.Progress.{AreInRange};
 ghost use Rattle.vg_engine.specs.Linked.{AreLinked};
@@ -19,9 +18,10 @@ use crate::load::load_due;
 use crate::lossless::lossless_links;
 use crate::reporting::report;
 use std::alloc::{AllocError, Global};
+use std::mem;
 use std::sync::Wait;
 use std::thread::Threads;
-use vg_capture::{Capture, Savefile, know_few};
+use vg_capture::know_few;
 use vg_dispatch::{Links, SentList};
 use vg_engine::{Options, Outcome, links_of, run_threads, run_turns};
 use vg_files::{Input, KINDS, Refusal, load_files, read_files};
@@ -30,6 +30,7 @@ use vg_load::Load;
 use vg_model::{Bytes, Memory};
 use vg_outside::{Folder, Gate};
 use vg_report::write_report;
+use vg_savefile::savefile_of;
 use vg_words::{Command, Run, read_words};
 
 // How many bytes a packet a list may have whose memory is kept: more than a log, a short packet or a line of the report.
@@ -41,28 +42,6 @@ struct Results {
     tx: Bytes,
     report: Bytes,
     end: RunEnd,
-}
-
-/// The length in bytes of the savefile of packets that were transmitted, for which room is made.
-fn savefile_len(sent: &SentList) -> usize {
-    let mut bytes: usize = 0;
-    for n in 0..sent.len() {
-        bytes = bytes.saturating_add(sent.get(n).1.len());
-    }
-    Savefile::room(sent.len(), bytes)
-}
-
-/// The savefile of the packets that were transmitted.
-fn savefile_of(alloc: Global, capture: &Capture, sent: &SentList) -> Result<Bytes, AllocError>
-    requires { All (λ (packet : ℕ × List ℕ). (packet.0 < length capture.now.packets) × (length packet.1 < 2 ^ 32)) sent.now }
-    ensures { IfOk result (λ bytes. bytes ≡ savefile capture.now sent.now) }
-{
-    let mut file = Savefile::begin(alloc, capture, savefile_len(sent))?;
-    for k in 0..sent.len() {
-        let (number, bytes) = sent.get(k);
-        file.put(capture, number, bytes)?;
-    }
-    Ok(file.end())
 }
 
 /// Runs the packets on workers that are linked by these queues: by these turns where there is a file of them, and else with each worker
@@ -133,7 +112,7 @@ fn forward<R: Wait + Threads + Sync, G: Gate>(
     know_few(capture);
     let generations = plan.generations();
     let turns = turns.as_ref().map(|turns| turns.as_slice());
-    let outcome = run_workers(
+    let mut outcome = run_workers(
         rt,
         alloc,
         &vg_engine::Input {
@@ -145,7 +124,9 @@ fn forward<R: Wait + Threads + Sync, G: Gate>(
         turns,
         gate,
     )?;
-    let Ok(tx) = savefile_of(alloc, capture, &outcome.sent) else {
+    let none = SentList::new(Vec::new(alloc), Vec::new(alloc));
+    let sent = mem::replace(&mut outcome.sent, none);
+    let Ok(tx) = savefile_of(alloc, capture, sent) else {
         return Err(Memory);
     };
     let Ok((report, end)) = report(alloc, options, generations, outcome) else {

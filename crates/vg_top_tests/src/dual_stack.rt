@@ -1,9 +1,8 @@
 //! IPv6 beside IPv4: packets over the nodes of both, over folders and sinks in memory. What is saved and printed was worked out by hand.
 
 use crate::memory_runs::{
-    FRAME, Frame, HEADER, RUN, Ran, WORKERS, bytes_of, run_over, run_with, savefile, words_of,
+    FRAME, Frame, HEADER, RUN, WORKERS, assert_done, bytes_of, run_over, saved_by, savefile,
 };
-use crate::neighbors::{assert_accepted, check_of};
 use std::alloc::{AllocError, Global};
 use std::process::Abort;
 use std::sync::Wait;
@@ -11,7 +10,7 @@ use std::test::Fail;
 use std::thread::Threads;
 
 /// A packet from 2001:db8::1 to 2001:db8::2, with a hop limit of 64 and no data.
-const IP6: Frame<'static> = (
+pub(crate) const IP6: Frame<'static> = (
     "02fe00000000 020000000001 86dd 6000000000003b40 \
         20010db8000000000000000000000001 20010db8000000000000000000000002",
     54,
@@ -32,29 +31,6 @@ const DUAL: &str = "adjacency six interface pg0 dst 02:00:00:00:00:66\n\
     arc re6 output interface-output\narc look6 rewrite re6\narc in6 lookup look6\n\
     arc eth ip6 in6\narc eth ip4 ip4-input\narc pg-input out eth\n";
 
-/// A run of these frames over this script saves those and prints this, and a check of both says yes.
-fn assert_done<R: Abort + Wait + Threads + Sync + AllocGlobal>(
-    rt: &R,
-    script: &str,
-    frames: &[Frame<'_>],
-    sent: &[Frame<'_>],
-    printed: &str,
-) -> Result<(), Fail> {
-    let alloc = rt.alloc();
-    let capture = savefile(alloc, frames)?;
-    let saved = savefile(alloc, sent)?;
-    let script = script.as_bytes();
-    let ran = run_over(rt, &RUN, capture.as_slice(), script)?;
-    assert_accepted(
-        rt,
-        ran,
-        capture.as_slice(),
-        script,
-        saved.as_slice(),
-        printed,
-    )
-}
-
 #[test]
 fn an_ip6_packet_leaves_with_a_hop_limit_less_by_one(rt: HostRuntime) -> Result<(), Fail> {
     let printed = "vgd report 1\nworkers 1\nbuffers 4096\ngenerations 1\npackets 1\n\
@@ -62,7 +38,7 @@ fn an_ip6_packet_leaves_with_a_hop_limit_less_by_one(rt: HostRuntime) -> Result<
         node 3 ip4-input 0\nnode 4 ip4-lookup 0\nnode 5 ip4-rewrite 0\nnode 6 interface-output 1\n\
         node 7 interface-tx 1\nnode 8 error-drop 0\nnode 9 eth 1\nnode 10 in6 1\nnode 11 look6 1\n\
         node 12 re6 1\npacket 0 0:0 tx pg0\nend\n";
-    assert_done(&rt, DUAL, &[IP6], &[IP6_SENT], printed)
+    assert_done(&rt, DUAL.as_bytes(), &[IP6], &[IP6_SENT], printed)
 }
 
 // In order: a hop limit of 1, a payload length of 1 with no payload, and a destination that no prefix covers.
@@ -92,7 +68,7 @@ fn ip6_packets_are_dropped_for_what_their_headers_say(rt: HostRuntime) -> Result
         node 12 re6 1\nerror in6 bad-length 1\nerror look6 no-route 1\nerror re6 ttl-expired 1\n\
         packet 0 0:0 drop re6 ttl-expired\npacket 1 0:0 drop in6 bad-length\n\
         packet 2 0:0 drop look6 no-route\nend\n";
-    assert_done(&rt, DUAL, &frames, &[], printed)
+    assert_done(&rt, DUAL.as_bytes(), &frames, &[], printed)
 }
 
 #[test]
@@ -116,7 +92,13 @@ fn ip4_takes_the_other_slot(rt: HostRuntime) -> Result<(), Fail> {
         node 7 interface-tx 2\nnode 8 error-drop 1\nnode 9 eth 3\nnode 10 in6 1\nnode 11 look6 1\n\
         node 12 re6 1\nerror eth unknown-type 1\n\
         packet 0 0:0 tx pg0\npacket 1 0:0 drop eth unknown-type\npacket 2 0:0 tx pg0\nend\n";
-    assert_done(&rt, script.as_str(), &[FRAME, arp, IP6], &sent, printed)
+    assert_done(
+        &rt,
+        script.as_str().as_bytes(),
+        &[FRAME, arp, IP6],
+        &sent,
+        printed,
+    )
 }
 
 // The header's check gives an IPv4 packet its mark; the nodes for IPv6 behind it see its version.
@@ -419,30 +401,6 @@ fn in_turn(alloc: Global) -> Result<Vec<u8>, AllocError> {
     Ok(file)
 }
 
-/// A check accepts what so many workers save and print, in threads or by turns.
-fn assert_accepted_by_any<'a, R: Abort + Wait + Threads + Sync + AllocGlobal>(
-    rt: &R,
-    capture: &'a [u8],
-    script: &'a [u8],
-    workers: &'a str,
-    in_threads: bool,
-) -> Result<(), Fail> {
-    let words = words_of(rt.alloc(), workers, in_threads)?;
-    let files: [(&str, &[u8]); 3] = [("c", capture), ("s", script), ("u", b"00m0m00m")];
-    let Ran {
-        status,
-        printed,
-        tx,
-        ran: _,
-    } = run_with(rt, words.as_slice(), &files)?;
-    assert_eq!(rt; status, 0);
-    let tx = tx.ok_or("no savefile")?;
-    let checked = check_of(rt, capture, script, tx.as_slice(), printed.as_slice())?;
-    assert_eq!(rt; checked.printed.as_slice(), "yes\n".as_bytes());
-    assert_eq!(rt; checked.status, 0);
-    Ok(())
-}
-
 // Where a packet that is handed over meets an event depends on the turns, so the check alone says what may come of it.
 #[test]
 fn any_workers_do_what_a_check_accepts(rt: HostRuntime) -> Result<(), Fail> {
@@ -451,10 +409,11 @@ fn any_workers_do_what_a_check_accepts(rt: HostRuntime) -> Result<(), Fail> {
     let script = format!(in alloc; "{DUAL}{CHANGING}")?;
     for workers in WORKERS {
         for in_threads in [false, true] {
-            assert_accepted_by_any(
+            let _saved = saved_by(
                 &rt,
                 capture.as_slice(),
                 script.as_str().as_bytes(),
+                b"00m0m00m",
                 workers,
                 in_threads,
             )?;

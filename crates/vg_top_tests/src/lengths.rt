@@ -1,8 +1,8 @@
 //! Packets of all lengths, over one buffer to five: on one worker and on several, behind a handoff, where queues are full, and where the pool
 //! is empty.
 
-use crate::memory_runs::{HEADER, bytes_of, run_with};
-use crate::neighbors::{assert_accepted, run_in};
+use crate::memory_runs::{HEADER, assert_accepted, bytes_of, run_with};
+use crate::neighbors::run_in;
 use crate::walked::checksum;
 use crate::workers::{HAND, TO_1, assert_ran, report};
 use std::alloc::{AllocError, Global};

@@ -1,7 +1,9 @@
-//! What the tests run: frames, savefiles, and calls over folders and sinks in memory.
+//! What the tests run: frames, savefiles, and calls over folders and sinks in memory, with what they save and print.
 
 use std::alloc::{AllocError, Global};
+use std::process::Abort;
 use std::sync::Wait;
+use std::test::Fail;
 use std::thread::Threads;
 use vg_outside::{Gate, OpenGate, SureFolder, SureSink};
 use vg_top::{Done, RunEnd, vgd_run};
@@ -145,6 +147,64 @@ pub(crate) fn run_over<R: Wait + Threads + Sync + AllocGlobal>(
     run_with(rt, words, &[("c", capture), ("s", script)])
 }
 
+/// The words of a check of what a run saved and printed.
+const CHECK: [&str; 5] = ["check", "c", "s", "t", "r"];
+
+/// What a check finds of what a run over a capture and a script saved and printed.
+pub(crate) fn check_of<'a, R: Wait + Threads + Sync + AllocGlobal>(
+    rt: &R,
+    capture: &'a [u8],
+    script: &'a [u8],
+    saved: &'a [u8],
+    printed: &'a [u8],
+) -> Result<Ran, AllocError> {
+    let files: [(&str, &[u8]); 4] = [("c", capture), ("s", script), ("t", saved), ("r", printed)];
+    run_with(rt, &CHECK, &files)
+}
+
+/// A run over one capture and one script has saved this and printed that, and a check of both says yes.
+pub(crate) fn assert_accepted<R: Abort + Wait + Threads + Sync + AllocGlobal>(
+    rt: &R,
+    ran: Ran,
+    capture: &[u8],
+    script: &[u8],
+    saved: &[u8],
+    printed: &str,
+) -> Result<(), Fail> {
+    assert_eq!(rt; ran.printed.as_slice(), printed.as_bytes());
+    assert_eq!(rt; ran.status, 0);
+    assert_eq!(rt; ran.tx.ok_or("no savefile")?.as_slice(), saved);
+    let checked = check_of(rt, capture, script, saved, printed.as_bytes())?;
+    assert_eq!(rt; checked.printed.as_slice(), "yes\n".as_bytes());
+    assert_eq!(rt; checked.status, 0);
+    Ok(())
+}
+
+/// A run of this capture over this script saves this and prints that, and a check of both says yes.
+pub(crate) fn assert_saved<R: Abort + Wait + Threads + Sync + AllocGlobal>(
+    rt: &R,
+    capture: &[u8],
+    script: &[u8],
+    saved: &[u8],
+    printed: &str,
+) -> Result<(), Fail> {
+    let ran = run_over(rt, &RUN, capture, script)?;
+    assert_accepted(rt, ran, capture, script, saved, printed)
+}
+
+/// A run of these frames over this script saves those and prints this, and a check of both says yes.
+pub(crate) fn assert_done<R: Abort + Wait + Threads + Sync + AllocGlobal>(
+    rt: &R,
+    script: &[u8],
+    frames: &[Frame<'_>],
+    sent: &[Frame<'_>],
+    printed: &str,
+) -> Result<(), Fail> {
+    let capture = savefile(rt.alloc(), frames)?;
+    let saved = savefile(rt.alloc(), sent)?;
+    assert_saved(rt, capture.as_slice(), script, saved.as_slice(), printed)
+}
+
 /// So many workers.
 pub(crate) const WORKERS: [&str; 8] = ["1", "2", "3", "4", "5", "6", "7", "8"];
 
@@ -160,4 +220,29 @@ pub(crate) fn words_of<'a>(
     }
     words.extend_from_slice(&["c", "s", "t"])?;
     Ok(words)
+}
+
+/// What so many workers save, in threads or with these turns. A check of it and of what they print says yes.
+pub(crate) fn saved_by<'a, R: Abort + Wait + Threads + Sync + AllocGlobal>(
+    rt: &R,
+    capture: &'a [u8],
+    script: &'a [u8],
+    turns: &'a [u8],
+    workers: &'a str,
+    in_threads: bool,
+) -> Result<Vec<u8>, Fail> {
+    let words = words_of(rt.alloc(), workers, in_threads)?;
+    let files: [(&str, &[u8]); 3] = [("c", capture), ("s", script), ("u", turns)];
+    let Ran {
+        status,
+        printed,
+        tx,
+        ran: _,
+    } = run_with(rt, words.as_slice(), &files)?;
+    assert_eq!(rt; status, 0);
+    let tx = tx.ok_or("no savefile")?;
+    let checked = check_of(rt, capture, script, tx.as_slice(), printed.as_slice())?;
+    assert_eq!(rt; checked.printed.as_slice(), "yes\n".as_bytes());
+    assert_eq!(rt; checked.status, 0);
+    Ok(tx)
 }

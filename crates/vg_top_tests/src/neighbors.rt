@@ -1,7 +1,7 @@
 //! Routes over several neighbors: the flow of a packet picks one of them, on one worker and on several, by whatever turns.
 
 use crate::memory_runs::{
-    FRAME, Frame, HEADER, RUN, Ran, run_over, run_with, savefile, savefile_at,
+    FRAME, Frame, HEADER, RUN, Ran, assert_accepted, assert_done, run_over, run_with, savefile_at,
 };
 use std::alloc::{AllocError, Global};
 use std::process::Abort;
@@ -44,39 +44,6 @@ const OTHER_TO_NEIGHBORS: [Frame<'static>; 2] = [
     ),
 ];
 
-/// The words of a check of what a run saved and printed.
-const CHECK: [&str; 5] = ["check", "c", "s", "t", "r"];
-
-/// What a check finds of what a run over a capture and a script saved and printed.
-pub(crate) fn check_of<'a, R: Wait + Threads + Sync + AllocGlobal>(
-    rt: &R,
-    capture: &'a [u8],
-    script: &'a [u8],
-    saved: &'a [u8],
-    printed: &'a [u8],
-) -> Result<Ran, AllocError> {
-    let files: [(&str, &[u8]); 4] = [("c", capture), ("s", script), ("t", saved), ("r", printed)];
-    run_with(rt, &CHECK, &files)
-}
-
-/// A run over one capture and one script has saved this and printed that, and a check of both says yes.
-pub(crate) fn assert_accepted<R: Abort + Wait + Threads + Sync + AllocGlobal>(
-    rt: &R,
-    ran: Ran,
-    capture: &[u8],
-    script: &[u8],
-    saved: &[u8],
-    printed: &str,
-) -> Result<(), Fail> {
-    assert_eq!(rt; ran.printed.as_slice(), printed.as_bytes());
-    assert_eq!(rt; ran.status, 0);
-    assert_eq!(rt; ran.tx.ok_or("no savefile")?.as_slice(), saved);
-    let checked = check_of(rt, capture, script, saved, printed.as_bytes())?;
-    assert_eq!(rt; checked.printed.as_slice(), "yes\n".as_bytes());
-    assert_eq!(rt; checked.status, 0);
-    Ok(())
-}
-
 /// The report of two packets that one worker forwards.
 const BOTH_FORWARDED: &str = "vgd report 1\nworkers 1\nbuffers 4096\ngenerations 1\npackets 2\n\
     interface 0 pg0 tx 2\nnode 0 pg-input 2\nnode 1 handoff-dequeue 0\nnode 2 ethernet-input 2\n\
@@ -89,22 +56,16 @@ fn assert_picks<R: Abort + Wait + Threads + Sync + AllocGlobal>(
     list: &str,
     sent: &[Frame<'_>],
 ) -> Result<(), Fail> {
-    let alloc = rt.alloc();
-    let script = format!(in alloc;
+    let script = format!(in rt.alloc();
         "adjacency e0 interface pg0 dst 02:00:00:00:00:10\n\
         adjacency e1 interface pg0 dst 02:00:00:00:00:11\n\
         route 10.1.0.0/16 via {list}\n"
     )?;
-    let script = script.as_str().as_bytes();
-    let capture = savefile(alloc, &[FRAME, OTHER])?;
-    let ran = run_over(rt, &RUN, capture.as_slice(), script)?;
-    let saved = savefile(alloc, sent)?;
-    assert_accepted(
+    assert_done(
         rt,
-        ran,
-        capture.as_slice(),
-        script,
-        saved.as_slice(),
+        script.as_str().as_bytes(),
+        &[FRAME, OTHER],
+        sent,
         BOTH_FORWARDED,
     )
 }
@@ -125,23 +86,13 @@ fn the_flow_picks_one_of_the_neighbors(rt: HostRuntime) -> Result<(), Fail> {
 
 #[test]
 fn a_longer_prefix_decides_before_the_flow(rt: HostRuntime) -> Result<(), Fail> {
-    let alloc = rt.alloc();
     let script = b"adjacency e0 interface pg0 dst 02:00:00:00:00:10\n\
         adjacency e1 interface pg0 dst 02:00:00:00:00:11\n\
         route 10.1.2.3/32 via e0\n\
         route 10.1.0.0/16 via e0,e1\n\
         route 10.1.2.8/29 via e1,e1,e1\n";
-    let capture = savefile(alloc, &[FRAME, OTHER])?;
-    let ran = run_over(&rt, &RUN, capture.as_slice(), script)?;
-    let saved = savefile(alloc, &[TO_NEIGHBORS[0], OTHER_TO_NEIGHBORS[1]])?;
-    assert_accepted(
-        &rt,
-        ran,
-        capture.as_slice(),
-        script,
-        saved.as_slice(),
-        BOTH_FORWARDED,
-    )
+    let sent = [TO_NEIGHBORS[0], OTHER_TO_NEIGHBORS[1]];
+    assert_done(&rt, script, &[FRAME, OTHER], &sent, BOTH_FORWARDED)
 }
 
 // The frame's place of two is 1, and of three it is 2.

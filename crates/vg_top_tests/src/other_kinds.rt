@@ -1,33 +1,12 @@
 //! Scripts with IPv6 routes, and with nodes of the kinds for IPv6 and for VLAN tags, over folders and sinks in memory.
 
-use crate::memory_runs::{EAST, FRAME, Frame, HEADER, RUN, WIRE, run_over, savefile};
-use crate::neighbors::assert_accepted;
+use crate::dual_stack::IP6;
+use crate::memory_runs::{EAST, FRAME, HEADER, RUN, WIRE, assert_saved, run_over, savefile};
+use crate::vlans::TAGGED;
 use std::process::Abort;
 use std::sync::Wait;
 use std::test::Fail;
 use std::thread::Threads;
-
-/// A packet from 2001:db8::1 to 2001:db8::2, with a hop limit of 64 and no data.
-const IP6: Frame<'static> = (
-    "02fe00000000 020000000001 86dd 6000000000003b40 \
-        20010db8000000000000000000000001 20010db8000000000000000000000002",
-    54,
-);
-
-/// A frame with the VLAN id 100, of an ARP.
-const TAGGED: Frame<'static> = ("02fe00000000 020000000001 8100 2064 0806 0001", 20);
-
-/// A run of this capture over this script saves this and prints that, and a check of both says yes.
-fn assert_done<R: Abort + Wait + Threads + Sync + AllocGlobal>(
-    rt: &R,
-    capture: &[u8],
-    script: &[u8],
-    saved: &[u8],
-    printed: &str,
-) -> Result<(), Fail> {
-    let ran = run_over(rt, &RUN, capture, script)?;
-    assert_accepted(rt, ran, capture, script, saved, printed)
-}
 
 /// What becomes of an IPv4 packet, an IPv6 packet and a tagged frame at a node of a kind, whose slots lead to the node that drops.
 const ENDS: [(&str, [&str; 3]); 10] = [
@@ -114,7 +93,7 @@ fn every_slot_of_such_nodes_leads_elsewhere(rt: HostRuntime) -> Result<(), Fail>
         node 9 eth 1\nnode 10 in6 1\nnode 11 look6 1\nnode 12 re6 1\n\
         node 13 cut 2\nnode 14 tag 1\nnode 15 cross 1\nnode 16 swap 0\n\
         packet 0 0:0 tx trunk\npacket 1 0:0 tx pg0\nend\n";
-    assert_done(&rt, capture.as_slice(), NAMED, saved.as_slice(), printed)
+    assert_saved(&rt, capture.as_slice(), NAMED, saved.as_slice(), printed)
 }
 
 /// A run over this script is refused with this line.
@@ -180,7 +159,7 @@ fn ip6_routes_leave_ip4_packets_as_they_are(rt: HostRuntime) -> Result<(), Fail>
         text.extend_from_slice(lines.as_bytes())?;
         let saved = plain.tx.ok_or("no savefile")?;
         let printed = String::from_utf8(plain.printed)?;
-        assert_done(
+        assert_saved(
             &rt,
             capture.as_slice(),
             text.as_slice(),

@@ -1,7 +1,7 @@
 //! Runs of one worker, over folders and sinks in memory.
 
 use crate::memory_runs::{
-    EAST, FRAME, Frame, HEADER, RUN, WIRE, bytes_of, run_over, savefile, savefile_at,
+    EAST, FRAME, Frame, HEADER, RUN, WIRE, assert_done, bytes_of, run_over, savefile, savefile_at,
 };
 use std::num::NonZeroUsize;
 use std::process::Abort;
@@ -10,23 +10,6 @@ use std::test::Fail;
 use std::thread::Threads;
 use vg_outside::{MemorySink, OpenGate, SureFolder};
 use vg_top::vgd_run;
-
-/// A run over these frames transmits those, and prints this report.
-fn assert_done<R: Abort + Wait + Threads + Sync + AllocGlobal>(
-    rt: &R,
-    script: &[u8],
-    frames: &[Frame<'_>],
-    sent: &[Frame<'_>],
-    report: &str,
-) -> Result<(), Fail> {
-    let alloc = rt.alloc();
-    let capture = savefile(alloc, frames)?;
-    let ran = run_over(rt, &RUN, capture.as_slice(), script)?;
-    assert_eq!(rt; ran.printed.as_slice(), report.as_bytes());
-    assert_eq!(rt; ran.status, 0);
-    assert_eq!(rt; ran.tx.ok_or("no savefile")?, savefile(alloc, sent)?);
-    Ok(())
-}
 
 /// The frame with the type of ARP.
 pub(crate) const ARP: Frame<'static> = (

@@ -1,9 +1,8 @@
 //! VLAN tags and cross-connects, over folders and sinks in memory. What is saved and printed was worked out by hand.
 
 use crate::memory_runs::{
-    FRAME, Frame, HEADER, RUN, Ran, WORKERS, bytes_of, run_over, run_with, savefile, words_of,
+    FRAME, Frame, HEADER, RUN, WORKERS, assert_done, bytes_of, run_over, saved_by, savefile,
 };
-use crate::neighbors::assert_accepted;
 use std::alloc::{AllocError, Global};
 use std::process::Abort;
 use std::sync::Wait;
@@ -11,36 +10,13 @@ use std::test::Fail;
 use std::thread::Threads;
 
 /// A frame of VLAN 100 with priority 1, of an ARP.
-const TAGGED: Frame<'static> = ("02fe00000000 020000000001 8100 2064 0806 0001", 20);
+pub(crate) const TAGGED: Frame<'static> = ("02fe00000000 020000000001 8100 2064 0806 0001", 20);
 
 /// A trunk, out of which VLAN 100 goes as VLAN 200; all else goes to the Ethernet input.
 const TRUNK: &str = "interface trunk mac 02:fe:00:00:00:01 mtu 1500 up\n\
     node cut kind dot1q-match-100\nnode tag kind dot1q-push-200\nnode cross kind xconnect-1\n\
     arc cross out interface-output\narc tag out cross\n\
     arc cut match tag\narc cut else ethernet-input\narc pg-input out cut\n";
-
-/// A run of these frames over this script saves those and prints this, and a check of both says yes.
-fn assert_done<R: Abort + Wait + Threads + Sync + AllocGlobal>(
-    rt: &R,
-    script: &str,
-    frames: &[Frame<'_>],
-    sent: &[Frame<'_>],
-    printed: &str,
-) -> Result<(), Fail> {
-    let alloc = rt.alloc();
-    let capture = savefile(alloc, frames)?;
-    let saved = savefile(alloc, sent)?;
-    let script = script.as_bytes();
-    let ran = run_over(rt, &RUN, capture.as_slice(), script)?;
-    assert_accepted(
-        rt,
-        ran,
-        capture.as_slice(),
-        script,
-        saved.as_slice(),
-        printed,
-    )
-}
 
 // In order: VLAN 100, VLAN 101, and a byte less than a tag and the type behind it.
 #[test]
@@ -58,7 +34,7 @@ fn one_vlan_comes_out_as_another(rt: HostRuntime) -> Result<(), Fail> {
         node 9 cut 3\nnode 10 tag 1\nnode 11 cross 1\nerror ethernet-input unknown-type 2\n\
         packet 0 0:0 tx trunk\npacket 1 0:0 drop ethernet-input unknown-type\n\
         packet 2 0:0 drop ethernet-input unknown-type\nend\n";
-    assert_done(&rt, TRUNK, &frames, &[sent], printed)
+    assert_done(&rt, TRUNK.as_bytes(), &frames, &[sent], printed)
 }
 
 /// One node of this kind, from the packet source to the transmitting node.
@@ -76,7 +52,13 @@ fn a_new_id_leaves_priority_and_mark(rt: HostRuntime) -> Result<(), Fail> {
         node 3 ip4-input 0\nnode 4 ip4-lookup 0\nnode 5 ip4-rewrite 0\nnode 6 interface-output 0\n\
         node 7 interface-tx 1\nnode 8 error-drop 1\nnode 9 swap 2\nerror swap unknown-type 1\n\
         packet 0 0:0 tx pg0\npacket 1 0:0 drop swap unknown-type\nend\n";
-    assert_done(&rt, script.as_str(), &[tagged, FRAME], &[sent], printed)
+    assert_done(
+        &rt,
+        script.as_str().as_bytes(),
+        &[tagged, FRAME],
+        &[sent],
+        printed,
+    )
 }
 
 /// The lower twelve bits of tags: the first and the last VLAN, and the numbers beside them, which name none.
@@ -395,29 +377,15 @@ fn any_workers_save_the_same_tags(rt: HostRuntime) -> Result<(), Fail> {
     }
     for workers in WORKERS {
         for in_threads in [false, true] {
-            let words = words_of(alloc, workers, in_threads)?;
-            let files: [(&str, &[u8]); 3] = [
-                ("c", capture.as_slice()),
-                ("s", BETWEEN.as_bytes()),
-                ("u", b"0m00"),
-            ];
-            let Ran {
-                status,
-                printed,
-                tx,
-                ran: _,
-            } = run_with(&rt, words.as_slice(), &files)?;
-            assert_eq!(rt; status, 0);
-            let tx = tx.ok_or("no savefile")?;
-            assert_eq!(rt; tx.as_slice(), saved.as_slice());
-            let files: [(&str, &[u8]); 4] = [
-                ("c", capture.as_slice()),
-                ("s", BETWEEN.as_bytes()),
-                ("t", tx.as_slice()),
-                ("r", printed.as_slice()),
-            ];
-            let checked = run_with(&rt, &["check", "c", "s", "t", "r"], &files)?;
-            assert_eq!(rt; checked.printed.as_slice(), "yes\n".as_bytes());
+            let tx = saved_by(
+                &rt,
+                capture.as_slice(),
+                BETWEEN.as_bytes(),
+                b"0m00",
+                workers,
+                in_threads,
+            )?;
+            assert!(rt; tx == saved);
         }
     }
     Ok(())

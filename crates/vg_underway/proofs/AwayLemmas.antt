@@ -1,8 +1,8 @@
 -- The packets of a dispatch are put away one by one.
-use Rattle.std.proofs.Common.{◌≡◌, ℕ, suc, ◌+◌, ◌<◌, ◌≤◌, ◌^◌, List, [], ◌∷◌, ◌++◌, length, map, get_or, drop, set, sym, ap, subst, ◌∙◌, arith, add-one, drop-cons}
+use Rattle.std.proofs.Common.{◌≡◌, ℕ, suc, ◌+◌, ◌<◌, ◌≤◌, ◌^◌, List, [], ◌∷◌, ◌++◌, length, map, get_or, take, drop, set, refl, sym, ap, subst, ◌∙◌, arith, add-one, drop-cons, append_assoc}
 use Rattle.std.specs.Prelude.{Bool, Option, Some, None, IfSome, slice_index, vec_len, vec_capacity}
-use Rattle.std.specs.List.{sum_by, cons_option}
-use Rattle.std.proofs.lemmas.List.{drop_all}
+use Rattle.std.specs.List.{sum_by, cons_option, AllByRecursion}
+use Rattle.std.proofs.lemmas.List.{drop_all, length-append, length-map, map-append, take-append-drop}
 use Rattle.std.proofs.lemmas.List.Sums.{sum_by-cons}
 use Rattle.vg_model.specs.Errors.{error_number}
 use Rattle.vg_model.specs.declared.kinds.Kind.{Kind}
@@ -17,6 +17,7 @@ use Rattle.vg_model.specs.PoolBook.{CacheBook}
 use Rattle.vg_model.proofs.LegEnds.{arc_target}
 use Rattle.vg_pool.specs.Contents.{Contents}
 use Rattle.vg_frame.specs.Pending.{pending_at, pending_count, TakesFrame}
+use Rattle.vg_frame.proofs.PendingLemmas.{put_none, put_more}
 use Rattle.vg_counters.specs.Notes.{Notes}
 use Rattle.vg_counters.specs.Tally.{Tally, more_at}
 use Rattle.vg_nodes.specs.declared.sorted.Sorted.{Sorted}
@@ -32,7 +33,7 @@ use Rattle.vg_underway.specs.Underway.{Setting, IsSetting, moved, move_owed, con
 use Rattle.vg_underway.specs.Hands.{PutsAway, IsDispatched}
 use Rattle.vg_underway.proofs.DeliverLemmas.{delivers_then, delivers_nothing}
 use Rattle.vg_underway.specs.Traced.{Sight, IsTraced, with_refusals, noted_frame}
-use Rattle.vg_underway.specs.Works.{total, IsHeld, IsSteady, Advances, Exchanges, TakesAll, IsPutAway, EndsHere, hand_of, visits_in_all, visits_left, ends_of, refused_visits, logged_count, by_pieces}
+use Rattle.vg_underway.specs.Works.{total, next_step, IsHeld, IsSteady, Advances, Exchanges, TakesAll, IsPutAway, EndsHere, hand_of, visits_in_all, visits_left, ends_of, refused_visits, logged_count, by_pieces}
 use Rattle.vg_underway.specs.Works.{CanFinish, CanCount, Finishes, outcome_of, ended_with, settled_with, sent_len, by_bytes, by_visits, by_all_visits}
 use Rattle.vg_underway.proofs.SumLemmas.{sum_by_none, counts_from_at}
 use Rattle.vg_underway.proofs.OwedLemmas.{target_within, drop_within}
@@ -88,6 +89,36 @@ away_put s node old old_cache old_hand w cache p rest slot to pending ok goes le
 -- and there is room for it
 pub put_room : (s : Setting) (node : ℕ) (w : Work) (p : ℕ × Step) (rest : List (ℕ × Step)) → IsHeld s node w (p ∷ rest) → pending_count w.pending < 2304
 put_room s node w p rest held = let all : pending_count w.pending + suc (length rest) ≡ count w.memory = held.count_is in let few = held.few in omega (arith, all, few)
+
+-- packets that go on over one slot
+pub away_put_each : (s : Setting) (node : ℕ) (old : Work) (old_cache : CacheBook) (old_hand : List (ℕ × Step)) (w : Work) (cache : CacheBook) (run : List (ℕ × ℕ)) (rest : List (ℕ × Step)) (slot to : ℕ) (pending : List (List ℕ))
+    → IsSetting s → AllByRecursion (λ (e : ℕ × ℕ). e.1 ≡ slot) run → arc s.graph node slot ≡ Some to → pending ≡ set w.pending to (pending_at w.pending to ++ map (λ (e : ℕ × ℕ). e.0) run)
+    → IsPutAway s node old old_cache old_hand w cache (map next_step run ++ rest) → IsPutAway s node old old_cache old_hand (record w { pending = pending }) cache rest
+away_put_each s node old old_cache old_hand w cache [] rest slot to pending ok same leads is away =
+    let none : pending ≡ w.pending = is ∙ put_none w.pending to in
+    subst (λ q. IsPutAway s node old old_cache old_hand (record w { pending = q }) cache rest) (sym none) away
+away_put_each s node old old_cache old_hand w cache (e ∷ es) rest slot to pending ok same leads is away =
+    let target : IsTarget (kind_at s.graph to) = arc_target s.graph node to ok.valid (slot, leads) in
+    let inside : to < length w.pending = to_within s node w (map next_step (e ∷ es) ++ rest) to ok away.steady.held target in
+    let here : List ℕ = pending_at w.pending to ++ e.0 ∷ [] in
+    let first : IsPutAway s node old old_cache old_hand (with_waiting to e.0 w) cache (map next_step es ++ rest) =
+    away_put s node old old_cache old_hand w cache (next_step e) (map next_step es ++ rest) e.1 to (set w.pending to here) ok refl (ap (arc s.graph node) same.0 ∙ leads) refl away in
+    away_put_each s node old old_cache old_hand (with_waiting to e.0 w) cache es rest slot to pending ok same.1 leads
+    (is ∙ sym (put_more w.pending to (e.0 ∷ []) (map (λ (x : ℕ × ℕ). x.0) es) inside)) first
+
+-- and there is room for them
+pub put_each_room : (s : Setting) (node : ℕ) (w : Work) (run : List (ℕ × ℕ)) (rest : List (ℕ × Step)) → IsHeld s node w (map next_step run ++ rest) → pending_count w.pending + length run ≤ 2304
+put_each_room s node w run rest held =
+    let all : pending_count w.pending + length (map next_step run ++ rest) ≡ count w.memory = held.count_is in
+    let few = held.few in
+    omega (arith, all, few, length-append (map next_step run) rest, length-map run next_step)
+
+-- a list in hand begins with a part of it
+pub hand_parts : {A B : Type 0} (step : A → B) (xs front back : List A) (n : ℕ) (others : List B) → front ≡ take n xs → back ≡ drop n xs
+    → map step xs ++ others ≡ map step front ++ (map step back ++ others)
+hand_parts step xs front back n others is_front is_back =
+    let whole : front ++ back ≡ xs = ap (λ ys. ys ++ back) is_front ∙ (ap (λ ys. take n xs ++ ys) is_back ∙ take-append-drop n xs) in
+    ap (λ ys. map step ys ++ others) (sym whole) ∙ (ap (λ ys. ys ++ others) (map-append step front back) ∙ append_assoc (map step front) (map step back) others)
 
 -- where it goes on to is one of the nodes
 pub put_within : (s : Setting) (node : ℕ) (old : Work) (old_cache : CacheBook) (old_hand : List (ℕ × Step)) (w : Work) (cache : CacheBook) (hand : List (ℕ × Step)) (slot to : ℕ)

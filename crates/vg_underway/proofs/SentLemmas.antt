@@ -8,7 +8,7 @@ use Rattle.vg_underway.specs.declared.sent.SentEntry.{SentEntry}
 use Rattle.vg_underway.specs.SentEntries.{entry_of, sent_in, sent_by, IsIn, AreIn, AreWithin, IsBelow, moved_on}
 
 -- a part of bytes, with more behind them
-part_kept : (bytes more : List ℕ) (start len : ℕ) → start + len ≤ length bytes → slice_range (bytes ++ more) start (start + len) ≡ slice_range bytes start (start + len)
+pub part_kept : (bytes more : List ℕ) (start len : ℕ) → start + len ≤ length bytes → slice_range (bytes ++ more) start (start + len) ≡ slice_range bytes start (start + len)
 part_kept bytes more start len h =
     ap (take ((start + len) - start)) (drop-append-le start bytes more (omega (arith, h)))
     ∙ take-append-le ((start + len) - start) (drop start bytes) more (omega (arith, h, length-drop start bytes))
@@ -24,7 +24,7 @@ longer bytes more zero n only h = omega (arith, h, length-append bytes more)
 longer bytes more (suc part) n only h = absurd (omega (arith, only))
 
 -- entries keep their bytes
-entries_kept : (bytes more : List ℕ) (entries : List SentEntry) → AreWithin entries bytes → sent_by entries (bytes ++ more) ≡ sent_by entries bytes
+pub entries_kept : (bytes more : List ℕ) (entries : List SentEntry) → AreWithin entries bytes → sent_by entries (bytes ++ more) ≡ sent_by entries bytes
 entries_kept bytes more [] within = refl
 entries_kept bytes more (e ∷ es) within =
     let here : IsIn (bytes ∷ []) e = within 0 e (omega arith) in

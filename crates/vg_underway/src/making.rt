@@ -1,5 +1,5 @@
 //! The memory of a worker, and what it has before its first turn.
-ghost use Rattle.std.specs.Prelude.{◌≡◌, ◌<◌, ◌≤◌, ◌^◌, [], length, map, min, replicate, vec_len, vec_capacity, IfOk, IfSome};
+ghost use Rattle.std.specs.Prelude.{◌≡◌, ◌<◌, ◌≤◌, ◌^◌, [], length, map, min, replicate, vec_len, vec_capacity, IfOk, MatchOption};
 ghost use Rattle.std.specs.List.{AllByRecursion};
 ghost use Rattle.vg_nodes.specs.Sorting.{nothing_sorted};
 ghost use Rattle.vg_ring.specs.Ends.{taken, rx_ring, rx_trail};
@@ -107,9 +107,9 @@ pub fn counting_of<H: Handoff<HandFrame>>(
     room
 }
 
-/// How many bytes the packets and the rooms that they are received with have together; `None` where no number says it.
+/// How many bytes the packets and the rooms that they are received with have together; `None` exactly where that is 2^64 or more.
 pub fn total_bytes(packets: &Packets) -> Option<usize>
-    ensures { IfSome result (λ total. total ≡ captured_extent packets.now) }
+    ensures { MatchOption result (2 ^ 64 ≤ captured_extent packets.now) (λ total. total ≡ captured_extent packets.now) }
 {
     let mut total: usize = 0;
     for place in 0..packets.len() {

@@ -1,5 +1,5 @@
 //! What was sent.
-ghost use Rattle.std.specs.Prelude.{◌≡◌, ◌<◌, ◌≤◌, ◌^◌, ◌++◌, ◌∷◌, [], ℕ, List, IfOk, flat_map, length, map, slice_get, slice_index_or, Some};
+ghost use Rattle.std.specs.Prelude.{◌≡◌, ◌<◌, ◌≤◌, ◌^◌, ◌++◌, ◌∷◌, [], ℕ, List, IfOk, flat_map, length, map, slice_get, slice_index_or, MatchResult, Some};
 ghost use Rattle.std.specs.List.{AllByRecursion};
 ghost use Rattle.std.specs.List.Sorted.{IsPermutation, IsNonDecreasing};
 ghost use Rattle.vg_underway.specs.SentEntries.{IsBelow, moved_on};
@@ -131,6 +131,25 @@ impl SentList {
             bytes,
             more,
         })
+    }
+
+    /// Where the packets' bytes stand, and the one list that has all of them, which is part 0.
+    ///
+    /// # Errors
+    ///
+    /// The packets, unchanged, where their bytes stand in several lists.
+    pub fn into_one(self) -> Result<(Vec<SentEntry>, Vec<u8>), SentList>
+        ensures { MatchResult result (λ one. AreWithin one.0.items one.1.items × (self ≡ sent_by one.0.items one.1.items)) (λ sent. sent ≡ self) }
+    {
+        if !self.more.is_empty() {
+            return Err(self);
+        }
+        let SentList {
+            entries,
+            bytes,
+            more: _,
+        } = self;
+        Ok((entries, bytes))
     }
 
     /// How many packets were transmitted.

@@ -3,6 +3,7 @@ use Rattle.std.specs.Prelude.{All}
 use Rattle.std.proofs.lemmas.List.{length-map}
 use Rattle.std.specs.List.{AllByRecursion}
 use Rattle.vg_files.specs.Kinds.{vgd_visit}
+use Rattle.vg_capture.specs.Savefile.{savefile}
 use Rattle.vg_model.specs.Journey.{longest_extent}
 use Rattle.vg_plan.specs.Plan.{first_generation}
 use Rattle.vg_engine.specs.Outcomes.{IsOutcome}
@@ -23,7 +24,8 @@ savefile_of-requires g c =
     are_within options.workers (length (frames_of capture)) outcome.sent is.js is.are_sent
     (own plan options capture outcome c.args.hold is c.requires.options c.generations-generations.ensures.plan).0
     (subst (AllByRecursion (λ (p : ℕ × List ℕ). length p.1 ≤ longest_extent)) is.are_sent is.short) in
-    subst (λ n. All (λ (p : ℕ × List ℕ). (p.0 < n) × (length p.1 < 2 ^ 32)) outcome.sent) (length-map capture.packets (λ p. p.bytes)) within
+    subst (λ sent. All (λ (p : ℕ × List ℕ). (p.0 < length capture.packets) × (length p.1 < 2 ^ 32)) sent) (sym c.replace-sent.ensures.value)
+    (subst (λ n. All (λ (p : ℕ × List ℕ). (p.0 < n) × (length p.1 < 2 ^ 32)) outcome.sent) (length-map capture.packets (λ p. p.bytes)) within)
 
 pub report-requires-clause-ends : goal.report-requires-clause-ends
 report-requires-clause-ends g c =
@@ -61,4 +63,4 @@ returns g c =
     (sym c.generations-generations.ensures.graphs ∙ c.generations-generations.ensures.events) c.know_few.ensures made
     c.in-Ok-report.ensures.interfaces c.in-Ok-report.ensures.nodes in
     results_are plan options c.args.input.now.capture outcome c.args.hold c.in_ok-outcome.ensures c.in-Ok-report.report _ c.generations-generations.ensures.plan made lawful
-    c.in_ok-report.ensures c.in-Ok.ensures c.in-Ok-report.ensures.rests c.in-Ok-report.ensures.seat c.in-Ok-report.ensures.settled
+    c.in_ok-report.ensures (c.in-Ok.ensures ∙ ap (savefile c.args.input.now.capture) c.replace-sent.ensures.value) c.in-Ok-report.ensures.rests c.in-Ok-report.ensures.seat c.in-Ok-report.ensures.settled

@@ -1,4 +1,4 @@
-use Rattle.std.proofs.Common.{◌≡◌, ℕ, List, [], ◌∷◌, ◌++◌, length, refl, ap, ◌∙◌}
+use Rattle.std.proofs.Common.{ℕ, List, [], ◌∷◌, ◌++◌, length, refl, ap, ◌∙◌}
 use Rattle.vg_underway.specs.declared.sent.SentEntry.{SentEntry}
 use Rattle.vg_underway.proofs.SentLemmas.{sent_by_more, within_more}
 use Rattle.vg_underway.proofs.underway.Work.keep.Goals as goal

@@ -1,8 +1,8 @@
 use Rattle.std.proofs.Common.{ℕ, List, ◌++◌, take, ap, sym, ◌∙◌, append_assoc}
 use Rattle.std.specs.Prelude.{flat_map}
 use Rattle.vg_capture.specs.Savefile.{file_header, sent_in}
-use Rattle.vg_top.proofs.SentLemmas.{records_more}
-use Rattle.vg_top.proofs.run.savefile_of.Goals as goal
+use Rattle.vg_savefile.proofs.WrittenLemmas.{records_more}
+use Rattle.vg_savefile.proofs.saving.written.Goals as goal
 
 pub loop-k-preserved : goal.loop-k-preserved
 loop-k-preserved c =
