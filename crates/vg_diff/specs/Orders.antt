@@ -8,12 +8,15 @@ use Rattle.std.specs.List.Sorted.{IsPermutation, IsSorted}
 use Rattle.vg_match.specs.declared.keys.Likeness.TheVariants.{Flow}
 use Rattle.vg_match.specs.Keys.{joined, parts_of}
 use Rattle.vg_match.specs.Frames.{layout_of}
+use Rattle.vg_match.specs.Hashes.{hash_of}
 use Rattle.vg_diff.specs.declared.orders.Turn.{Turn}
 use Rattle.vg_diff.specs.Lines.{frame_at, file_of}
 
--- a packet that came: the savefile that it stands in, its flow, and its numbers among those that came and those that were wanted
+-- a packet that came: the savefile that it stands in, the hash of its flow, its flow, and its numbers among those that came and those that
+-- were wanted
 pub record Coming : Type 0 where
   pub file : ℕ
+  pub hash : ℕ
   pub flow : List ℕ
   pub got : ℕ
   pub wanted : ℕ
@@ -24,17 +27,19 @@ flow_of frame = joined (parts_of Flow (layout_of frame)) frame
 
 -- the packet of a pair
 abbrev pub coming_of : (frames : List (Bor (List ℕ))) → (starts : List ℕ) → ℕ × ℕ → Coming
-coming_of frames starts pair = record { file = file_of starts pair.1; flow = flow_of (frame_at frames pair.0); got = pair.1; wanted = pair.0 }
+coming_of frames starts pair =
+    let flow = flow_of (frame_at frames pair.0) in record { file = file_of starts pair.1; hash = hash_of flow; flow = flow; got = pair.1; wanted = pair.0 }
 
 -- the same, as the code has it
 abbrev pub coming : Turn → Coming
-coming turn = record { file = turn.file; flow = turn.flow.items; got = turn.got; wanted = turn.wanted }
+coming turn = record { file = turn.file; hash = turn.hash; flow = turn.flow.items; got = turn.got; wanted = turn.wanted }
 
--- by savefile, then by flow, then as they came
+-- by savefile, then by flow, these by their hashes first, then as they came
 abbrev pub coming_cmp : Coming → Coming → Ordering
 coming_cmp one other =
     ordering_then (nat_cmp one.file other.file)
-    (ordering_then (slice_cmp nat_cmp one.flow other.flow) (ordering_then (nat_cmp one.got other.got) (nat_cmp one.wanted other.wanted)))
+    (ordering_then (nat_cmp one.hash other.hash)
+    (ordering_then (slice_cmp nat_cmp one.flow other.flow) (ordering_then (nat_cmp one.got other.got) (nat_cmp one.wanted other.wanted))))
 
 -- both are of one savefile and one flow
 abbrev pub is_one_flow : Coming → Coming → Bool

@@ -4,14 +4,15 @@ ghost use Rattle.vg_diff.specs.Orders.{flow_of as flow_in, coming, coming_of, is
 
 use crate::lines::{file_of, frame_at};
 use std::alloc::{AllocError, Global};
-use vg_match::{Diff, Likeness, likeness_of};
+use vg_match::{Diff, Likeness, hash_of, likeness_of};
 use vg_model::Bytes;
 
-// A packet that came: the savefile that it stands in, its flow, and its numbers among those that came and those that were wanted. In this
-// order they are compared.
+// A packet that came: the savefile that it stands in, the hash of its flow, its flow, and its numbers among those that came and those that
+// were wanted. In this order they are compared, so the flows themselves only where their hashes are the same.
 #[derive(Drop, PartialEq, Eq, PartialOrd, Ord)]
 struct Turn {
     file: usize,
+    hash: u64,
     flow: Vec<u8>,
     got: u32,
     wanted: u32,
@@ -37,6 +38,7 @@ fn turn_of(
     let flow = flow_of(alloc, frame_at(frames, wanted))?;
     Ok(Turn {
         file: file_of(starts, got),
+        hash: hash_of(flow.as_slice()),
         flow: flow.into_vec(),
         got,
         wanted,
@@ -52,7 +54,7 @@ fn turns(
 ) -> Result<Vec<Turn>, AllocError>
     ensures { IfOk result (λ turns. map coming turns.items ≡ map (coming_of frames.now starts.now) pairs.now) }
 {
-    let mut turns = Vec::new(alloc);
+    let mut turns = Vec::with_capacity(alloc, pairs.len())?;
     for pair in pairs {
         turns.push(turn_of(alloc, *pair, frames, starts)?)?;
     }

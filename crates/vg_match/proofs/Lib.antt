@@ -1,3 +1,4 @@
+pub mod HashLemmas
 pub mod MergeLemmas
 pub mod MaskLemmas
 pub mod SideLemmas

@@ -1,3 +1,4 @@
+pub mod Hashes
 pub mod Matching
 pub mod Frames
 pub mod Fields

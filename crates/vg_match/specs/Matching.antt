@@ -1,11 +1,14 @@
 -- Matchings: pairs of entries of two sides whose keys are equal.
-use Rattle.std.specs.Prelude.{◌≡◌, ◌≢◌, List, ◌++◌, map, All, AllPairs}
+use Rattle.std.specs.Prelude.{◌≡◌, ◌≢◌, ℕ, List, ◌++◌, map, All, AllPairs}
 use Rattle.std.specs.Cmp.Lexicographic.{slice_cmp}
-use Rattle.std.specs.Ordering.{nat_cmp}
+use Rattle.std.specs.Ordering.{nat_cmp, ordering_then}
+use Rattle.std.specs.declared.cmp.Ordering.{Ordering}
 use Rattle.std.specs.declared.cmp.Ordering.TheVariants.{Greater}
 use Rattle.std.specs.List.Sorted.{IsPermutation}
 use Rattle.vg_match.specs.declared.matching.Entry.{Entry}
+use Rattle.vg_match.specs.declared.matching.Hashed.{Hashed}
 use Rattle.vg_match.specs.declared.matching.Matching.{Matching}
+use Rattle.vg_match.specs.Hashes.{hash_of}
 
 -- one of each side
 abbrev pub Pair : Type 0
@@ -35,10 +38,34 @@ pub record IsMatchingOf (wanted got : List Entry) (matching : Matching) : Type 0
   pub equal : All AreEqual matching.pairs.items
   pub greatest : AreApart matching.wanted.items matching.got.items
 
--- the key of the second is not less than that of the first
+-- ---- keys in their order
+
+-- by their hashes, and of one hash by their bytes
+abbrev pub keys_cmp : List ℕ → List ℕ → Ordering
+keys_cmp first second = ordering_then (nat_cmp (hash_of first) (hash_of second)) (slice_cmp nat_cmp first second)
+
+-- the key of the second is not before that of the first
 abbrev pub NotBelow : Entry → Entry → Type 0
-NotBelow first second = slice_cmp nat_cmp first.key.now second.key.now ≢ Greater
+NotBelow first second = keys_cmp first.key.now second.key.now ≢ Greater
 
 -- the keys of these entries never fall
 abbrev pub Rises : List Entry → Type 0
 Rises entries = AllPairs NotBelow entries
+
+-- ---- entries with the hashes of their keys
+
+abbrev pub entry_of : Hashed → Entry
+entry_of hashed = hashed.entry
+
+-- the hash is that of the key
+abbrev pub IsHashed : Hashed → Type 0
+IsHashed hashed = hashed.hash ≡ hash_of hashed.entry.key.now
+
+-- by the hashes that stand there, and of one hash by the bytes of the keys
+abbrev pub hashed_cmp : Hashed → Hashed → Ordering
+hashed_cmp first second = ordering_then (nat_cmp first.hash second.hash) (slice_cmp nat_cmp first.entry.key.now second.entry.key.now)
+
+-- the hashes are those of the keys, which never fall
+pub record AreHashed (all : List Hashed) : Type 0 where
+  pub hashes : All IsHashed all
+  pub rise : Rises (map entry_of all)

@@ -84,9 +84,9 @@ fn match_equal<'k>(
     ensures { IfOk result (IsMatched (compared_bytes ignored.now) (seen first.now.frames.now) (seen second.now.frames.now)
         (meant_numbers only.now 0 (seen first.now.frames.now)) (meant_numbers only.now 0 (seen second.now.frames.now))) }
 {
-    let mut ones = meant_entries(alloc, first, ignored, only)?;
-    let mut others = meant_entries(alloc, second, ignored, only)?;
-    let matching = match_up(alloc, &mut ones, &mut others)?;
+    let ones = meant_entries(alloc, first, ignored, only)?;
+    let others = meant_entries(alloc, second, ignored, only)?;
+    let matching = match_up(alloc, ones.as_slice(), others.as_slice())?;
     matched_numbers(alloc, &matching)
 }
 
@@ -104,9 +104,9 @@ fn match_rows<'a>(
         → AreRowsOf key first numbers.now rows.now → AreRowsOf key second others.now more.now
         → IfOk result (IsMatched key first second numbers.now others.now) }
 {
-    let mut ones = with_keys(alloc, numbers, rows)?;
-    let mut twos = with_keys(alloc, others, more)?;
-    let matching = match_up(alloc, &mut ones, &mut twos)?;
+    let ones = with_keys(alloc, numbers, rows)?;
+    let twos = with_keys(alloc, others, more)?;
+    let matching = match_up(alloc, ones.as_slice(), twos.as_slice())?;
     matched_numbers(alloc, &matching)
 }
 

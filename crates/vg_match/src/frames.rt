@@ -55,7 +55,7 @@ fn has_tag_at(frame: &[u8], at: usize) -> bool
 }
 
 // Where the type of what a frame carries stands: behind the addresses and at most two tags.
-fn type_at(frame: &[u8]) -> usize
+pub(crate) fn type_at(frame: &[u8]) -> usize
     ensures value { result ≡ type_stands_at frame.now }
     ensures small { result ≤ 20 }
 {
@@ -78,7 +78,7 @@ pub(crate) fn carries(frame: &[u8], kind: u16, header: usize) -> bool
 }
 
 // What a frame carries.
-fn kind_of(frame: &[u8]) -> Carried
+pub(crate) fn kind_of(frame: &[u8]) -> Carried
     ensures { result ≡ carried_by frame.now }
 {
     if carries(frame, IP4, 20) {

@@ -163,6 +163,16 @@ fn parts_of(likeness: Likeness, layout: &Layout) -> Parts
     }
 }
 
+// Room for the bytes of all parts, the rest among them, so that they are taken at once.
+fn room_for(parts: &Parts, rest: &[u8]) -> usize {
+    let spans = parts
+        .first
+        .len
+        .saturating_add(parts.second.len)
+        .saturating_add(parts.third.len);
+    spans.saturating_add(rest.len()).saturating_add(1)
+}
+
 /// What a frame is alike by, of the bytes that it is compared by.
 ///
 /// # Errors
@@ -177,11 +187,12 @@ pub fn likeness_of(
     ensures { IfOk result (λ bytes. bytes ≡ joined (parts_alike likeness (layout_in frame.now)) key.now) }
 {
     let parts = parts_of(likeness, &layout_of(frame));
-    let mut out = Vec::new(alloc);
+    let rest = from(key, parts.rest);
+    let mut out = Vec::with_capacity(alloc, room_for(&parts, rest))?;
     out.push(parts.version)?;
     out.extend_from_slice(cut(key, parts.first))?;
     out.extend_from_slice(cut(key, parts.second))?;
     out.extend_from_slice(cut(key, parts.third))?;
-    out.extend_from_slice(from(key, parts.rest))?;
+    out.extend_from_slice(rest)?;
     Ok(Bytes::from_vec(out))
 }

@@ -1,11 +1,12 @@
 //! Packets of two sides, matched by their bytes.
 //!
-//! In which order to read: `frames`, `fields`, `keys`, `noise`, `ranges`, `matching`, `sides`, `diffs`.
+//! In which order to read: `frames`, `fields`, `keys`, `noise`, `ranges`, `hashes`, `matching`, `sides`, `diffs`.
 #![tactic(auto)]
 
 pub mod diffs;
 pub mod fields;
 pub mod frames;
+pub mod hashes;
 pub mod keys;
 pub mod matching;
 pub mod noise;
@@ -15,6 +16,7 @@ pub mod sides;
 pub use diffs::{Diff, compare, match_is_exact};
 pub use fields::{Field, Span, is_among};
 pub use frames::{ARP, Carried, IP4, IP6, Layout, front, layout_of};
+pub use hashes::hash_of;
 pub use keys::{Likeness, compared, cut, likeness_of};
 pub use matching::{Entry, Matching, match_up};
 pub use noise::is_noise;

@@ -1,7 +1,8 @@
 //! Entries of two sides, matched one to one by their keys.
-ghost use Rattle.std.specs.Prelude.{IfOk};
-ghost use Rattle.vg_match.specs.Matching.{IsMatchingOf, Rises};
+ghost use Rattle.std.specs.Prelude.{◌≡◌, ◌++◌, map, All, IfOk, OnOk};
+ghost use Rattle.vg_match.specs.Matching.{IsMatchingOf, entry_of, IsHashed, AreHashed, hashed_cmp};
 
+use crate::hashes::hash_of;
 use std::alloc::{AllocError, Global};
 use std::cmp::Ordering;
 
@@ -25,15 +26,60 @@ pub struct Matching<'a> {
     pub got: Vec<Entry<'a>>,
 }
 
+// An entry and the hash of its key. They are put in order by the hash, which stands here, and by the key, which stands elsewhere in memory,
+// only where the hashes are the same.
+#[derive(Clone, Copy, PartialEq, Eq, PartialOrd, Ord)]
+struct Hashed<'a> {
+    hash: u64,
+    entry: Entry<'a>,
+}
+
+impl<'a> Hashed<'a> {
+    // How the keys stand to each other.
+    fn key_order(&self, other: &Hashed<'_>) -> Ordering
+        ensures { result ≡ hashed_cmp self.now other.now }
+    {
+        match self.hash.cmp(&other.hash) {
+            Ordering::Equal => self.entry.key.cmp(&other.entry.key),
+            order => order,
+        }
+    }
+}
+
+// Entries with the hashes of their keys.
+fn with_hashes<'a>(alloc: Global, entries: &[Entry<'a>]) -> Result<Vec<Hashed<'a>>, AllocError>
+    ensures entries { IfOk result (λ made. map entry_of made.items ≡ entries.now) }
+    ensures hashes { IfOk result (λ made. All IsHashed made.items) }
+{
+    let mut made = Vec::with_capacity(alloc, entries.len())?;
+    for entry in entries {
+        made.push(Hashed {
+            hash: hash_of(entry.key),
+            entry: *entry,
+        })?;
+    }
+    Ok(made)
+}
+
+// Adds entries behind the others.
+fn put_entries<'a>(out: &mut Vec<Entry<'a>>, hashed: &[Hashed<'a>]) -> Result<(), AllocError>
+    ensures { OnOk result (out.new.items ≡ out.old.items ++ map entry_of hashed.now) }
+{
+    for one in hashed {
+        out.push(one.entry)?;
+    }
+    Ok(())
+}
+
 // Matches two sides whose keys never fall, in one pass over both.
 fn merge<'a>(
     alloc: Global,
-    wanted: &[Entry<'a>],
-    got: &[Entry<'a>],
+    wanted: &[Hashed<'a>],
+    got: &[Hashed<'a>],
 ) -> Result<Matching<'a>, AllocError>
-    requires wanted { Rises wanted.now }
-    requires got { Rises got.now }
-    ensures { IfOk result (IsMatchingOf wanted.now got.now) }
+    requires wanted { AreHashed wanted.now }
+    requires got { AreHashed got.now }
+    ensures { IfOk result (IsMatchingOf (map entry_of wanted.now) (map entry_of got.now)) }
 {
     let mut pairs = Vec::new(alloc);
     let mut missing = Vec::new(alloc);
@@ -43,24 +89,24 @@ fn merge<'a>(
     while next < wanted.len() && coming < got.len() {
         let w = wanted[next];
         let g = got[coming];
-        match w.key.cmp(&g.key) {
+        match w.key_order(&g) {
             Ordering::Less => {
-                missing.push(w)?;
+                missing.push(w.entry)?;
                 next += 1;
             }
             Ordering::Greater => {
-                extra.push(g)?;
+                extra.push(g.entry)?;
                 coming += 1;
             }
             Ordering::Equal => {
-                pairs.push((w, g))?;
+                pairs.push((w.entry, g.entry))?;
                 next += 1;
                 coming += 1;
             }
         }
     }
-    missing.extend_from_slice(&wanted[next..])?;
-    extra.extend_from_slice(&got[coming..])?;
+    put_entries(&mut missing, &wanted[next..])?;
+    put_entries(&mut extra, &got[coming..])?;
     Ok(Matching {
         pairs,
         wanted: missing,
@@ -69,19 +115,21 @@ fn merge<'a>(
 }
 
 /// Matches the entries of two sides by their keys: each with at most one of the other side, and as many as can be. Of several with one key
-/// those with the least numbers are matched, in their order. Both sides are put in the order of their keys.
+/// those with the least numbers are matched, in their order.
 ///
 /// # Errors
 ///
 /// [`AllocError`] where memory runs out.
 pub fn match_up<'a>(
     alloc: Global,
-    wanted: &mut Vec<Entry<'a>>,
-    got: &mut Vec<Entry<'a>>,
+    wanted: &[Entry<'a>],
+    got: &[Entry<'a>],
 ) -> Result<Matching<'a>, AllocError>
-    ensures { IfOk result (IsMatchingOf wanted.old.items got.old.items) }
+    ensures { IfOk result (IsMatchingOf wanted.now got.now) }
 {
-    wanted.sort()?;
-    got.sort()?;
-    merge(alloc, wanted.as_slice(), got.as_slice())
+    let mut first = with_hashes(alloc, wanted)?;
+    let mut second = with_hashes(alloc, got)?;
+    first.sort()?;
+    second.sort()?;
+    merge(alloc, first.as_slice(), second.as_slice())
 }

@@ -2,7 +2,7 @@
 ghost use Rattle.std.specs.Prelude.{◌≡◌};
 ghost use Rattle.vg_match.specs.Noise.{is_discovery as is_discovery_frame, is_noise as is_noise_frame};
 
-use crate::frames::{ARP, Carried, carries, layout_of};
+use crate::frames::{ARP, Carried, carries, kind_of, type_at};
 
 /// The protocol of ICMPv6.
 const ICMP6: u8 = 58;
@@ -11,12 +11,12 @@ const ICMP6: u8 = 58;
 fn is_discovery(frame: &[u8]) -> bool
     ensures { result ≡ is_discovery_frame frame.now }
 {
-    let layout = layout_of(frame);
-    if layout.carried != Carried::Ip6 || frame.len() < layout.at + 41 {
+    let at = type_at(frame) + 2;
+    if kind_of(frame) != Carried::Ip6 || frame.len() < at + 41 {
         return false;
     }
-    let kind = frame[layout.at + 40];
-    frame[layout.at + 6] == ICMP6 && 133 <= kind && kind <= 137
+    let kind = frame[at + 40];
+    frame[at + 6] == ICMP6 && 133 <= kind && kind <= 137
 }
 
 /// Whether a frame is of ARP or of the neighbor discovery of IPv6.

@@ -56,7 +56,7 @@ fn whole_key(frame: &[u8]) -> &[u8]
 pub fn fronts<'a>(alloc: Global, frames: &[&'a [u8]]) -> Result<Vec<&'a [u8]>, AllocError>
     ensures { IfOk result (λ keys. seen keys.items ≡ map (compared_bytes []) (seen frames.now)) }
 {
-    let mut keys = Vec::new(alloc);
+    let mut keys = Vec::with_capacity(alloc, frames.len())?;
     for frame in frames {
         keys.push(whole_key(frame))?;
     }
@@ -145,7 +145,7 @@ pub fn meant_entries<'k>(
     ensures numbers { IfOk result (λ entries. map number_of entries.items ≡ meant_numbers only.now 0 (seen side.now.frames.now)) }
     ensures keys { IfOk result (λ entries. All (IsOf (compared_bytes ignored.now) (seen side.now.frames.now)) entries.items) }
 {
-    let mut entries = Vec::new(alloc);
+    let mut entries = Vec::with_capacity(alloc, side.frames.len())?;
     for number in 0..side.frames.len() {
         put_meant(&mut entries, side, ignored, only, number)?;
     }
