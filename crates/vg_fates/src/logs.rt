@@ -75,6 +75,7 @@ impl Model for FateList {
 }
 
 // A fate as it is logged in itself, where it can be.
+#[inline]
 fn plain(number: u32, legs: &[Leg], congested: Option<u64>, end: End) -> Option<LogEntry>
     ensures { IfSome result (λ entry. (others : List Fate) → IsLogged (length others) entry
         × (fate_in others entry ≡ record { number = number; legs = legs.now; congested = congested; end = end })) }
@@ -119,6 +120,7 @@ impl FateLog {
 
     /// Logs what became of the packet with this number. It takes no memory, and copies the legs only where there are several or a
     /// queue refused the packet.
+    #[inline]
     pub fn push(&mut self, number: u32, legs: &[Leg], congested: Option<u64>, end: End)
         requires room { length self.old.items < self.old.room }
         requires legs { length legs.now ≤ 4 }

@@ -1,5 +1,5 @@
 -- How many indexes wait in all.
-use Rattle.std.proofs.Common.{◌≡◌, ℕ, ◌+◌, ◌<◌, List, [], ◌∷◌, ◌++◌, length, set, ap, ◌∙◌, arith, append_assoc}
+use Rattle.std.proofs.Common.{◌≡◌, ℕ, ◌+◌, ◌<◌, List, [], ◌∷◌, ◌++◌, length, map, set, ap, ◌∙◌, arith, append_assoc}
 use Rattle.std.proofs.lemmas.List.{length-append, append-nil, get_or-set_same, set-get_or, set-set}
 use Rattle.std.proofs.lemmas.List.Sums.{sum_by-set}
 use Rattle.vg_frame.specs.Pending.{pending_at, pending_count}
@@ -10,15 +10,14 @@ pending_count-put pending node index within =
     let one : length (pending_at pending node ++ index ∷ []) ≡ length (pending_at pending node) + 1 = rw length-append (omega arith) in
     omega arith
 
-pub pending_count-put_each : (pending : List (List ℕ)) (node : ℕ) (xs : List ℕ) → node < length pending → pending_count (set pending node (pending_at pending node ++ xs)) ≡ pending_count pending + length xs
-pending_count-put_each pending node xs within =
-    let total = sum_by-set length pending node (pending_at pending node ++ xs) [] within in
-    let more = length-append (pending_at pending node) xs in
-    omega (arith, total, more)
-
 -- no index is put yet, and one more is put behind others
 pub put_none : (pending : List (List ℕ)) (node : ℕ) → set pending node (pending_at pending node ++ []) ≡ pending
 put_none pending node = ap (set pending node) (append-nil (pending_at pending node)) ∙ set-get_or pending node []
+
+-- entries that are none put no index
+pub put_nothing : {X : Type 0} (pending : List (List ℕ)) (node : ℕ) (entries : List (ℕ × X)) → length entries ≡ 0 → set pending node (pending_at pending node ++ map (λ (entry : ℕ × X). entry.0) entries) ≡ pending
+put_nothing pending node [] none = put_none pending node
+put_nothing pending node (entry ∷ entries) none = absurd (omega (arith, none))
 
 pub put_more : (pending : List (List ℕ)) (node : ℕ) (xs ys : List ℕ) → node < length pending
     → set (set pending node (pending_at pending node ++ xs)) node (pending_at (set pending node (pending_at pending node ++ xs)) node ++ ys) ≡ set pending node (pending_at pending node ++ (xs ++ ys))

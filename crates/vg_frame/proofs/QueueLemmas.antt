@@ -1,8 +1,8 @@
--- For `Queue::{is_empty, push, pop}`: what full frames, with the newest indexes behind them, make of the list of indexes.
-use Rattle.std.proofs.Common.{◌≡◌, ℕ, suc, ◌*◌, ◌<◌, ◌≤◌, List, [], ◌∷◌, ◌++◌, length, get_or, take, drop, remove, refl, sym, ap, ◌∙◌, arith, append_assoc, length-append}
+-- For `Queue::{is_empty, push, push_each, pop}`: what full frames, with the newest indexes behind them, make of the list of indexes.
+use Rattle.std.proofs.Common.{◌≡◌, ℕ, suc, ◌+◌, ◌*◌, ◌<◌, ◌≤◌, List, [], ◌∷◌, ◌++◌, length, map, get_or, take, drop, remove, refl, sym, ap, ◌∙◌, arith, append_assoc, length-append}
 use Rattle.std.specs.List.{All, flat_map}
 use Rattle.std.proofs.Math.Seq.{take-append_seam, drop-append_seam}
-use Rattle.std.proofs.lemmas.List.{take_all, drop_all}
+use Rattle.std.proofs.lemmas.List.{length-map, length-take-le, map-append, take_all, take_more, drop_all}
 use Rattle.std.proofs.lemmas.List.Elements.{All-push}
 use Rattle.std.proofs.lemmas.List.Concat.{flat_map-cons}
 use Rattle.vg_frame.specs.Pending.{frame_size}
@@ -62,3 +62,25 @@ module _ {X : Type 0} (f : X → List ℕ) where
   pub AllFull-rest : (xs : List X) → AllFull xs → AllFull (remove xs 0)
   AllFull-rest [] full = full
   AllFull-rest (x ∷ xs) full = AllFull-tail x xs full
+
+-- the indexes of the first entries
+abbrev pub firsts : {X : Type 0} → ℕ → List (ℕ × X) → List ℕ
+firsts {X} k entries = map (λ (entry : ℕ × X). entry.0) (take k entries)
+
+firsts_more : {X : Type 0} (entries : List (ℕ × X)) (k : ℕ) (d : ℕ × X) → k < length entries → firsts (k + 1) entries ≡ firsts k entries ++ (get_or entries k d).0 ∷ []
+firsts_more {X} entries k d inside = ap (map (λ (entry : ℕ × X). entry.0)) (take_more entries k d inside) ∙ map-append (λ (entry : ℕ × X). entry.0) (take k entries) (get_or entries k d ∷ [])
+
+-- how many wait once the first of the entries do
+pub first_len : {X : Type 0} (old now : List ℕ) (entries : List (ℕ × X)) (k : ℕ) → k ≤ length entries → now ≡ old ++ firsts k entries → length now ≡ length old + k
+first_len {X} old now entries k inside is =
+    ap length is ∙ length-append old (firsts k entries)
+    ∙ ap (λ n. length old + n) (length-map (take k entries) (λ (entry : ℕ × X). entry.0) ∙ length-take-le k entries inside)
+
+-- the next entry's index behind those of the first entries
+pub first_pushed : {X : Type 0} (old now new : List ℕ) (entries : List (ℕ × X)) (k : ℕ) (entry : ℕ × X) → k < length entries → entry ≡ get_or entries k entry
+    → now ≡ old ++ firsts k entries → new ≡ now ++ entry.0 ∷ [] → new ≡ old ++ firsts (k + 1) entries
+first_pushed old now new entries k entry inside here is pushed =
+    pushed
+    ∙ (ap (λ xs. xs ++ entry.0 ∷ []) is
+    ∙ (append_assoc old (firsts k entries) (entry.0 ∷ [])
+    ∙ ap (λ xs. old ++ xs) (ap (λ e. firsts k entries ++ e.0 ∷ []) here ∙ sym (firsts_more entries k entry inside))))

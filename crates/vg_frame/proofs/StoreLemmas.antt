@@ -1,4 +1,4 @@
--- For `put` and `next_frame` of a store: what it keeps as indexes are put and frames are taken.
+-- For `put`, `put_each` and `next_frame` of a store: what it keeps as indexes are put and frames are taken.
 use Rattle.std.proofs.Common.{◌≡◌, ◌≢◌, ℕ, zero, suc, ◌+◌, ◌*◌, ◌<◌, ◌≤◌, List, [], ◌∷◌, ◌++◌, length, get_or, set, take, drop, replicate, refl, sym, ap, ◌∙◌, subst, arith, ⊎_elim}
 use Rattle.std.specs.List.{All}
 use Rattle.std.specs.Int.{bit_at}
@@ -33,6 +33,33 @@ has_spare queues spare bits store few =
     let frames = store.frames in
     let nodes = store.nodes in
     omega arith
+
+-- what waits for one node is among all that waits
+waiting-le : (queues : List Waiting) (node : ℕ) (d : Waiting) → node < length queues → length (get_or queues node d).indexes ≤ pending_count (pending queues)
+waiting-le queues node d within =
+    let there : node < length (pending queues) = rw length-map within in
+    let part = get_or-le-sum_by length (pending queues) node [] there in
+    let same = ap length (get_or-map (λ (v : Waiting). v.indexes) queues node d [] within) in
+    omega (arith, part, same)
+
+-- so while so many indexes may be put, a queue has room for them
+pub has_room_for : (queues : List Waiting) (node : ℕ) (d : Waiting) (n : ℕ) → node < length queues → pending_count (pending queues) + n ≤ most_pending → length (get_or queues node d).indexes + n ≤ most_pending
+has_room_for queues node d n within few = let part = waiting-le queues node d within in omega (arith, part, few)
+
+-- and with the frames that it has full, as many are spare as they fill: the other queues have no more full ones than their indexes make
+pub has_spares_for : (queues : List Waiting) (spare bits : ℕ) → IsStore queues spare bits → (node : ℕ) (d : Waiting) (n : ℕ) → node < length queues → pending_count (pending queues) + n ≤ most_pending
+    → length (get_or queues node d).indexes + n ≤ frame_size * (spare + (get_or queues node d).full)
+has_spares_for queues spare bits store node d n within few =
+    let there : node < length (pending queues) = rw length-map within in
+    let others : List Waiting = set queues node none_waits in
+    let full = full_frames-le others (All-set IsCut queues node none_waits (omega arith) store.cut) in
+    let frames = sum_by-set (λ (v : Waiting). v.full) queues node none_waits d within in
+    let without = ap pending_count (map-set (λ (v : Waiting). v.indexes) queues node none_waits) in
+    let count = sum_by-set length (pending queues) node [] [] there in
+    let here = ap length (get_or-map (λ (v : Waiting). v.indexes) queues node d [] within) in
+    let all = store.frames in
+    let nodes = store.nodes in
+    omega (arith, full, frames, without, count, here, all, nodes, few)
 
 -- as many frames are in use as aren't spare
 pub has_place : (queues : List Waiting) (spare bits : ℕ) → IsStore queues spare bits → (node : ℕ) (d : Waiting) → node < length queues → spare + (get_or queues node d).full ≤ most_frames
@@ -79,6 +106,11 @@ IsStore-set queues spare bits spare' bits' node new d store within cut frames bi
 pub busy_bit-push : (xs : List ℕ) (x : ℕ) → busy_bit (xs ++ x ∷ []) ≡ 1
 busy_bit-push [] x = refl
 busy_bit-push (y ∷ ys) x = refl
+
+pub busy_bit-more : (xs ys : List ℕ) → 0 < length ys → busy_bit (xs ++ ys) ≡ 1
+busy_bit-more [] [] some = absurd (omega (arith, some))
+busy_bit-more [] (y ∷ ys) some = refl
+busy_bit-more (x ∷ xs) ys some = refl
 
 pub busy_bit-some : (xs : List ℕ) → xs ≢ [] → busy_bit xs ≡ 1
 busy_bit-some [] some = absurd (some refl)

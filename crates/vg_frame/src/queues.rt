@@ -1,6 +1,6 @@
 //! What waits for one node.
-ghost use Rattle.std.specs.Prelude.{◌≡◌, ◌+◌, ◌<◌, ◌≤◌, ◌↔◌, IsTrue, IfOk, [], ◌∷◌, ◌++◌, take, drop};
-ghost use Rattle.vg_frame.specs.Pending.{frame_size};
+ghost use Rattle.std.specs.Prelude.{◌≡◌, ◌+◌, ◌*◌, ◌<◌, ◌≤◌, ◌↔◌, IsTrue, IfOk, [], ◌∷◌, ◌++◌, length, map, take, drop};
+ghost use Rattle.vg_frame.specs.Pending.{frame_size, most_pending};
 ghost use Rattle.vg_frame.specs.Waiting.{Waiting, IsCut, most_full, most_frames, none_waits};
 
 use crate::frames::Frame;
@@ -54,6 +54,7 @@ impl Queue {
     }
 
     /// The index waits behind the others. Where that makes a frame full, a spare one comes behind it.
+    #[inline]
     pub fn push(&mut self, index: u32, spares: &mut Spares)
         requires room { self.old.full < most_full }
         requires spare { 0 < spares.old }
@@ -65,6 +66,21 @@ impl Queue {
         if self.newest.len() == FRAME_SIZE {
             let full = mem::replace(&mut self.newest, spares.take());
             self.full.push_reserved(full);
+        }
+    }
+
+    /// The indexes of these entries wait behind the others, in their order. Behind each frame that gets full comes a spare one.
+    #[inline]
+    pub fn push_each<T: Copy>(&mut self, entries: &[(u32, T)], spares: &mut Spares)
+        requires room { length self.old.indexes + length entries.now ≤ most_pending }
+        requires spare { length self.old.indexes + length entries.now ≤ frame_size * (spares.old + self.old.full) }
+        requires cut { IsCut self.old }
+        ensures indexes { self.new.indexes ≡ self.old.indexes ++ map (λ entry. entry.0) entries.now }
+        ensures frames { spares.new + self.new.full ≡ spares.old + self.old.full }
+        ensures cut { IsCut self.new }
+    {
+        for (index, _) in entries {
+            self.push(*index, spares);
         }
     }
 

@@ -76,9 +76,11 @@ impl FrameStore {
         requires room { pending_count self.old + length entries.now ≤ most_pending }
         ensures { self.new ≡ slice_set self.old node (pending_at self.old node ++ map (λ entry. entry.0) entries.now) }
     {
-        for (index, _) in entries {
-            self.put(node, *index);
+        if entries.is_empty() {
+            return;
         }
+        self.queues[node as usize].push_each(entries, &mut self.spares);
+        self.busy.insert(node);
     }
 
     /// Takes the oldest frame of the lowest node for which any index waits, and says which node: the first 256 indexes, or all

@@ -26,7 +26,7 @@ impl KindSet for Ip4Kinds {
         self.visit_at(fork.kind(node), fork, node, buffer)
     }
 
-    // One call for each packet and node.
+    // In line, and so are the visits: a step goes to its list without being made.
     #[inline(always)]
     fn visit_at(&self, kind: Kind, fork: &Fork, _node: u16, buffer: &mut Buffer) -> Step {
         know_interfaces(fork);

@@ -1,10 +1,12 @@
 //! The checksum of an IPv4 header (RFC 791, section 3.1; RFC 1071), and its update (RFC 1624).
-ghost use Rattle.std.specs.Prelude.{◌≡◌, ◌≢◌, ◌+◌, ◌-◌, ◌≤◌, ◌%◌, length, slice_index, slice_set, IsTrue};
+ghost use Rattle.std.specs.Prelude.{◌≡◌, ◌≢◌, ◌↔◌, ◌+◌, ◌-◌, ◌<◌, ◌≤◌, ◌%◌, ◌^◌, length, slice_index, slice_set, IsTrue};
 ghost use Rattle.vg_model.specs.Bytes.{overwritten};
-ghost use Rattle.vg_model.specs.Header.{header_sum, verifies, checksum as checksum_of, folded as folded_sum, lowered};
+ghost use Rattle.vg_model.specs.Header.{verifies, checksum as checksum_of, folded as folded_sum, lowered, word_sum as sum_of_words};
+ghost use Rattle.vg_packet.specs.Sums.{pair_sum as sum_of_pairs};
 ghost use Rattle.vg_packet.specs.Update.{updated};
 
 use crate::fields::u16_at;
+use crate::headers::LEAST_HEADER;
 use byteorder::{BigEndian, ByteOrder};
 
 /// Where the time to live stands in a header. The protocol is the other byte of its word.
@@ -19,13 +21,15 @@ const CHECKSUM: usize = 10;
 /// Whether a header's checksum is right: whether the ones' complement sum of its 16-bit words, the
 /// checksum among them, has all bits set (RFC 1071, section 1). `header` is the whole IPv4 header, with
 /// its options: an even number of bytes, 20 to 60.
+#[inline]
 pub fn verify_header(header: &[u8]) -> bool
     requires even { length header.now % 2 ≡ 0 }
     requires least { 20 ≤ length header.now }
     requires most { length header.now ≤ 60 }
     ensures { result ≡ verifies header.now }
 {
-    ones_complement_sum(header) == 0xffff
+    let (fixed, options) = header.split_at(LEAST_HEADER);
+    has_all_bits(pair_sum(fixed) + u64::from(word_sum(options)))
 }
 
 /// Lowers a header's time to live by one, and writes the checksum that the changed header has (RFC
@@ -79,18 +83,43 @@ fn updated_checksum(checksum: u16, before: u16, after: u16) -> u16
     !folded(u32::from(!checksum) + u32::from(!before) + u32::from(after))
 }
 
-/// The ones' complement sum of the 16-bit words (RFC 1071, section 1). The words are added up in more
-/// bits than they have, and the carries added back in at the end.
-fn ones_complement_sum(bytes: &[u8]) -> u16
+/// Whether all 16 bits of the sum are set once its carries are brought back in: whether it is a multiple of 0xffff other than 0. To bring
+/// a carry back in takes 0xffff away, and leaves 0 of nothing but 0.
+#[inline]
+fn has_all_bits(sum: u64) -> bool
+    ensures { IsTrue result ↔ ((sum ≢ 0) × (sum % 65535 ≡ 0)) }
+{
+    sum != 0 && sum % 0xffff == 0
+}
+
+/// The plain sum of the 32-bit words. Each is two 16-bit words, and a multiple of 0xffff more than their sum, so that it serves as well
+/// where carries are brought back in (RFC 1071, section 2).
+#[inline]
+fn pair_sum(bytes: &[u8]) -> u64
+    requires whole { length bytes.now % 4 ≡ 0 }
+    requires most { length bytes.now ≤ 60 }
+    ensures sum { result ≡ sum_of_pairs bytes.now }
+    ensures small { result < 2 ^ 36 }
+{
+    let mut sum = 0u64;
+    for pair in bytes.chunks_exact(4) {
+        sum += u64::from(BigEndian::read_u32(pair));
+    }
+    sum
+}
+
+/// The plain sum of the 16-bit words.
+#[inline]
+fn word_sum(bytes: &[u8]) -> u32
     requires even { length bytes.now % 2 ≡ 0 }
     requires most { length bytes.now ≤ 60 }
-    ensures { result ≡ header_sum bytes.now }
+    ensures { result ≡ sum_of_words bytes.now }
 {
     let mut sum = 0u32;
     for word in bytes.chunks_exact(2) {
         sum += u32::from(BigEndian::read_u16(word));
     }
-    folded(sum)
+    sum
 }
 
 /// A sum of 16-bit words with its carries added to its lower 16 bits, twice: the first time can carry

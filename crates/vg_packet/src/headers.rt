@@ -80,6 +80,7 @@ pub fn destination(datagram: &[u8]) -> u32
 
 /// The first check that fails of the IPv4 header of a datagram of `len` bytes that begins with these (RFC 1812, section 5.2.2). They are
 /// at least 60, the most that a header has, or all of the datagram.
+#[inline]
 pub fn header_fault(head: &[u8], len: usize) -> Option<DropError>
     requires { min len 60 ≤ length head.now }
     ensures { result ≡ visits.fault_within head.now len }

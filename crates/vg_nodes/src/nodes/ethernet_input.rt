@@ -11,6 +11,7 @@ use vg_packet::headers::ETHERTYPE_IPV4;
 use vg_pool::Buffer;
 
 // Checks the Ethernet header.
+#[inline(always)]
 pub(crate) fn ethernet_input(fork: &Fork, buffer: &Buffer) -> Step
     requires { 1 ≤ length fork.now.graph.interfaces }
     ensures { (result, buffer.now.packet) ≡ visits.ethernet_input fork.now.graph buffer.now.packet }

@@ -19,6 +19,7 @@ pub fn know_interfaces(fork: &Fork)
 }
 
 // The interface that the packet is transmitted on: its own, where the graph has it, or else the first.
+#[inline(always)]
 pub(crate) fn transmit_interface(fork: &Fork, buffer: &Buffer) -> u16
     requires { 1 ≤ length fork.now.graph.interfaces }
     ensures interface { result ≡ visits.transmit_interface fork.now.graph buffer.now.packet }
@@ -31,6 +32,7 @@ pub(crate) fn transmit_interface(fork: &Fork, buffer: &Buffer) -> u16
 }
 
 // Drops where the interface is down.
+#[inline(always)]
 pub(crate) fn interface_output(fork: &Fork, buffer: &Buffer) -> Step
     requires { 1 ≤ length fork.now.graph.interfaces }
     ensures { (result, buffer.now.packet) ≡ visits.interface_output fork.now.graph buffer.now.packet }

@@ -8,6 +8,7 @@ use vg_model::Step;
 use vg_pool::Buffer;
 
 // Checks the IPv4 header, and gives the packet the mark.
+#[inline(always)]
 pub(crate) fn ip4_input(buffer: &mut Buffer) -> Step
     ensures visited { (result, buffer.new.packet) ≡ visits.ip4_input buffer.old.packet }
     ensures legs { buffer.new.legs ≡ buffer.old.legs }

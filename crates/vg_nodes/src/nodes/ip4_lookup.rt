@@ -12,6 +12,7 @@ use vg_model::{DropError, HashKind, Members, RouteTo, Step};
 use vg_pool::Buffer;
 
 // Chooses the route of the longest prefix that covers the destination, and of its adjacencies the one that the flow's hash picks.
+#[inline(always)]
 pub(crate) fn ip4_lookup(fork: &Fork, buffer: &mut Buffer) -> Step
     ensures visited { (result, buffer.new.packet) ≡ visits.ip4_lookup fork.now.graph buffer.old.packet }
     ensures legs { buffer.new.legs ≡ buffer.old.legs }

@@ -15,6 +15,7 @@ use vg_packet::{TIME_TO_LIVE, lowered_ttl};
 use vg_pool::{Buffer, know_contents};
 
 // Makes the frame ready for the next hop.
+#[inline(always)]
 pub(crate) fn ip4_rewrite(fork: &Fork, buffer: &mut Buffer) -> Step
     ensures visited { (result, buffer.new.packet) ≡ visits.ip4_rewrite fork.now.graph buffer.old.packet }
     ensures legs { buffer.new.legs ≡ buffer.old.legs }

@@ -1,11 +1,13 @@
 //! Sums whose values are known.
-use super::{ones_complement_sum, updated_checksum};
+use super::{folded, has_all_bits, pair_sum, updated_checksum, word_sum};
 use crate::laws;
 
 #[test]
 fn words_of_rfc_1071_are_summed(rt: HostRuntime) {
     let words = [0x00, 0x01, 0xf2, 0x03, 0xf4, 0xf5, 0xf6, 0xf7];
-    assert_eq!(rt; ones_complement_sum(&words), 0xddf2);
+    assert_eq!(rt; folded(word_sum(&words)), 0xddf2);
+    assert_eq!(rt; pair_sum(&words), 0x0001_f203 + 0xf4f5_f6f7);
+    assert!(rt; has_all_bits(pair_sum(&words) + 0x220d));
 }
 
 #[test]

@@ -1,52 +1,59 @@
-use Rattle.std.proofs.Common.{◌≡◌, ℕ, ◌+◌, ◌<◌, ◌≤◌, List, [], ◌∷◌, ◌++◌, length, map, take, get_or, set, sym, ap, ◌∙◌, subst, arith}
-use Rattle.std.proofs.lemmas.List.{length-set, length-map, length-take-le, map-append, take_more, take_all}
-use Rattle.vg_frame.specs.Pending.{pending_at, pending_count}
-use Rattle.vg_frame.proofs.PendingLemmas.{pending_count-put_each, put_none, put_more}
+use Rattle.std.proofs.Common.{◌≡◌, ℕ, ◌+◌, ◌<◌, ◌++◌, length, map, sym, ap, ◌∙◌, subst, arith}
+use Rattle.std.proofs.lemmas.Bool.{eqb-true}
+use Rattle.std.proofs.lemmas.Grind.{common_steps}
+use Rattle.std.proofs.lemmas.List.{length-map}
+use Rattle.vg_frame.specs.NodeSet.{SetsBit}
+use Rattle.vg_frame.specs.Waiting.{Waiting, IsCut, busy_bit}
+use Rattle.vg_frame.proofs.PendingLemmas.{put_nothing}
+use Rattle.vg_frame.proofs.StoreLemmas.{has_room_for, has_spares_for, length-pending, pending-set, busy_bit-more, IsStore-set}
 use Rattle.vg_frame.proofs.store.FrameStore.put_each.Goals as goal
 
--- the indexes of the first entries
-abbrev firsts : {X : Type 0} → ℕ → List (ℕ × X) → List ℕ
-firsts {X} k entries = map (λ (entry : ℕ × X). entry.0) (take k entries)
+pub returns-then-is_empty : goal.returns-then-is_empty
+returns-then-is_empty g c =
+    let none = eqb-true _ 0 (sym c.is_empty.ensures ∙ c.if-is_empty.true) in
+    sym (put_nothing c.args.self.now c.args.node c.args.entries.now none)
 
-firsts_more : {X : Type 0} (entries : List (ℕ × X)) (k : ℕ) (d : ℕ × X) → k < length entries → firsts (k + 1) entries ≡ firsts k entries ++ (get_or entries k d).0 ∷ []
-firsts_more {X} entries k d inside = ap (map (λ (entry : ℕ × X). entry.0)) (take_more entries k d inside) ∙ map-append (λ (entry : ℕ × X). entry.0) (take k entries) (get_or entries k d ∷ [])
+pub push_each-requires-clause-room : goal.push_each-requires-clause-room
+push_each-requires-clause-room g c =
+    let q = c.self.inside in
+    let node_in = rw (← c.self.view_is) at c.requires.node in
+    let within : c.args.node < length q.queues.items = omega (arith, length-pending q.queues.items) in
+    let fits = has_room_for q.queues.items c.args.node c.index_mut.result.now (length c.args.entries.now) within (rw (← c.self.view_is) at c.requires.room) in
+    omega (arith, fits, ap (λ (w : Waiting). length w.indexes) c.index_mut.ensures.value)
 
-firsts_len : {X : Type 0} (entries : List (ℕ × X)) (k : ℕ) → k ≤ length entries → length (firsts k entries) ≡ k
-firsts_len {X} entries k inside = length-map (take k entries) (λ (entry : ℕ × X). entry.0) ∙ length-take-le k entries inside
+pub push_each-requires-clause-spare : goal.push_each-requires-clause-spare
+push_each-requires-clause-spare g c =
+    let q = c.self.inside in
+    let node_in = rw (← c.self.view_is) at c.requires.node in
+    let within : c.args.node < length q.queues.items = omega (arith, length-pending q.queues.items) in
+    let fits = has_spares_for q.queues.items q.spares q.busy.bits c.self.invariant c.args.node c.index_mut.result.now (length c.args.entries.now) within (rw (← c.self.view_is) at c.requires.room) in
+    omega (arith, fits, ap (λ (w : Waiting). length w.indexes) c.index_mut.ensures.value, ap (λ (w : Waiting). w.full) c.index_mut.ensures.value)
 
--- there is room for one more, and it is put behind them
-room_for : {X : Type 0} (old now : List (List ℕ)) (node : ℕ) (entries : List (ℕ × X)) (k : ℕ) → node < length old → pending_count old + length entries ≤ 2304 → k < length entries
-    → now ≡ set old node (pending_at old node ++ firsts k entries) → pending_count now < 2304
-room_for old now node entries k within room inside is =
-    let count = ap pending_count is ∙ pending_count-put_each old node (firsts k entries) within in
-    let long : length (firsts k entries) ≡ k = firsts_len entries k (omega arith) in
-    omega (arith, count, long)
+pub push_each-requires-clause-cut : goal.push_each-requires-clause-cut
+push_each-requires-clause-cut g c =
+    let q = c.self.inside in
+    let node_in = rw (← c.self.view_is) at c.requires.node in
+    let within : c.args.node < length q.queues.items = omega (arith, length-pending q.queues.items) in
+    subst IsCut (sym c.index_mut.ensures.value) (c.self.invariant.cut c.args.node c.index_mut.result.now within)
 
-one_more : {X : Type 0} (old now new : List (List ℕ)) (node : ℕ) (entries : List (ℕ × X)) (k : ℕ) (entry : ℕ × X) → node < length old → k < length entries → entry ≡ get_or entries k entry
-    → now ≡ set old node (pending_at old node ++ firsts k entries) → new ≡ set now node (pending_at now node ++ entry.0 ∷ []) → new ≡ set old node (pending_at old node ++ firsts (k + 1) entries)
-one_more old now new node entries k entry within inside here is put =
-    put
-    ∙ (ap (λ q. set q node (pending_at q node ++ entry.0 ∷ [])) is
-    ∙ (put_more old node (firsts k entries) (entry.0 ∷ []) within
-    ∙ ap (λ xs. set old node (pending_at old node ++ xs)) (ap (λ e. firsts k entries ++ e.0 ∷ []) here ∙ sym (firsts_more entries k entry inside))))
-
-pub loop-index-init : goal.loop-index-init
-loop-index-init g c = sym (put_none c.args.self.now c.args.node)
-
-pub put-requires-clause-node : goal.put-requires-clause-node
-put-requires-clause-node g c =
-    subst (λ n. c.args.node < n) (sym (ap length c.loop-index.invariant ∙ length-set c.args.self.now c.args.node _)) c.requires.node
-
-pub put-requires-clause-room : goal.put-requires-clause-room
-put-requires-clause-room g c =
-    room_for c.args.self.now c.loop-index.self c.args.node c.args.entries.now c.loop-index.index-index c.requires.node c.requires.room c.loop-index-test.true c.loop-index.invariant
-
-pub loop-index-preserved : goal.loop-index-preserved
-loop-index-preserved g c =
-    one_more c.args.self.now c.loop-index.self c.put.new.self c.args.node c.args.entries.now c.loop-index.index-index c.loop-index-item.result
-    c.requires.node c.loop-index-test.true c.loop-index-item.is c.loop-index.invariant c.put.ensures
+pub invariant_of-self : goal.invariant_of-self
+invariant_of-self g c =
+    let q = c.self.inside in
+    let node_in = rw (← c.self.view_is) at c.requires.node in
+    let within : c.args.node < length q.queues.items = omega (arith, length-pending q.queues.items) in
+    let frames = c.push_each.ensures.frames ∙ ap (λ (w : Waiting). q.spares + w.full) c.index_mut.ensures.value in
+    let some : 0 < length c.args.entries.now = grind (arith, common_steps, c.is_empty.ensures, c.if-is_empty.false) in
+    let put = length-map c.args.entries.now (λ entry. entry.0) in
+    let busy : 1 ≡ busy_bit c.push_each.new.self.indexes = sym (ap busy_bit c.push_each.ensures.indexes ∙ busy_bit-more c.index_mut.result.now.indexes _ (omega (arith, some, put))) in
+    let P : ℕ → Type 0 = λ bit. SetsBit q.busy.bits c.insert.new.self.bits c.args.node bit in
+    IsStore-set q.queues.items q.spares q.busy.bits c.push_each.new.spares c.insert.new.self.bits c.args.node c.push_each.new.self c.index_mut.result.now
+    c.self.invariant within c.push_each.ensures.cut frames (subst P busy c.insert.ensures)
 
 pub returns : goal.returns
 returns g c =
-    c.loop-index.invariant
-    ∙ ap (λ xs. set c.args.self.now c.args.node (pending_at c.args.self.now c.args.node ++ map (λ entry. entry.0) xs)) (take_all c.loop-index.index-index c.args.entries.now c.loop-index-test.false)
+    let q = c.self.inside in
+    let node_in = rw (← c.self.view_is) at c.requires.node in
+    let within : c.args.node < length q.queues.items = omega (arith, length-pending q.queues.items) in
+    rw (← c.self.view_is)
+    (pending-set q.queues.items c.args.node c.push_each.new.self c.index_mut.result.now (λ xs. xs ++ map (λ entry. entry.0) c.args.entries.now) within
+    (c.push_each.ensures.indexes ∙ ap (λ (w : Waiting). w.indexes ++ map (λ entry. entry.0) c.args.entries.now) c.index_mut.ensures.value))

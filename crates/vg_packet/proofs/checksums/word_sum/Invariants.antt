@@ -1,6 +1,6 @@
 use Rattle.std.proofs.Common.{◌≡◌, ℕ, ◌+◌, ◌*◌, ◌≤◌, ◌%◌, List, length}
 use Rattle.vg_model.specs.Header.{word_sum}
-use Rattle.vg_packet.proofs.checksums.ones_complement_sum.Given as goal
+use Rattle.vg_packet.proofs.checksums.word_sum.Given as goal
 
 -- of so many bytes, with so much added up and these words left
 pub record IsPartial (bytes : List ℕ) (sum size : ℕ) (rest : List ℕ) : Type 0 where
