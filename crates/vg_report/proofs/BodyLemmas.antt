@@ -1,8 +1,8 @@
 -- Reports of which lines are read.
-use Rattle.std.proofs.Common.{◌≡◌, ◌≢◌, ℕ, suc, ◌+◌, ◌-◌, ◌*◌, ◌<◌, ◌≤◌, Bool, true, false, cond, List, [], ◌∷◌, length, refl, sym, ap, subst, ◌∙◌, arith}
+use Rattle.std.proofs.Common.{◌≡◌, ℕ, suc, ◌+◌, ◌-◌, ◌*◌, ◌<◌, ◌≤◌, Bool, true, false, cond, List, [], ◌∷◌, length, refl, sym, ap, subst, ◌∙◌, arith}
 use Rattle.std.proofs.Math.ListN.{length-map}
 use Rattle.std.specs.List.{position_from, IsDistinct}
-use Rattle.std.specs.Prelude.{Option, Some, None, is_some, unwrap_or, Result, Ok, Err, bytes_eq}
+use Rattle.std.specs.Prelude.{Some, is_some, unwrap_or, Result, Ok, Err, bytes_eq}
 use Rattle.vg_model.specs.declared.kinds.DropError.{DropError}
 use Rattle.vg_model.specs.declared.kinds.DropError.TheVariants as errors
 use Rattle.vg_model.specs.Errors.{error_number}
@@ -13,7 +13,7 @@ use Rattle.vg_report.specs.declared.reading.Head.{Head}
 use Rattle.vg_report.specs.declared.reports.Report.{Report}
 use Rattle.vg_report.specs.Answers.{IsNext, line_answer, refusal_at, Says, lines_read, GoesOn, Goes, IsHead}
 use Rattle.vg_report.specs.Forms.{Words}
-use Rattle.vg_report.specs.Lawful.{names, number_of, IsDeclared, error_place, AreErrorsFrom}
+use Rattle.vg_report.specs.Lawful.{names, IsDeclared, error_place, AreErrorsFrom}
 use Rattle.vg_report.specs.Reading.{Said, Further, Whole, said_form, Rest, refused, with_read, cut_off, ended, with_said, body_at, body, begun, report_behind, IsRefusal}
 use Rattle.vg_report.specs.SoFar.{IsSoFar}
 use Rattle.vg_report.specs.Words.{words}

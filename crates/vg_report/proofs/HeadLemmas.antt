@@ -1,8 +1,8 @@
 -- The first five lines.
-use Rattle.std.proofs.Common.{◌≡◌, ◌≢◌, ℕ, suc, ◌+◌, ◌^◌, ◌<◌, ◌≤◌, List, [], ◌∷◌, ◌++◌, length, map, refl, sym, ap, subst, ◌∙◌, arith}
+use Rattle.std.proofs.Common.{◌≡◌, ◌≢◌, ℕ, ◌≤◌, List, [], ◌∷◌, ◌++◌, map, refl, sym, ap, subst, ◌∙◌, arith}
 use Rattle.std.proofs.lemmas.List.Splits.{join_with_byte-slice_split}
 use Rattle.std.specs.List.{join_with_byte}
-use Rattle.std.specs.Prelude.{Result, Ok, Err, codes, decimal}
+use Rattle.std.specs.Prelude.{Result, Ok, Err, codes}
 use Rattle.vg_report.specs.declared.errors.ReportCause.{ReportCause}
 use Rattle.vg_report.specs.declared.errors.ReportCause.TheVariants as causes
 use Rattle.vg_report.specs.declared.errors.ReportError.{ReportError}
@@ -10,10 +10,10 @@ use Rattle.vg_report.specs.declared.reading.Head.{Head}
 use Rattle.vg_report.specs.declared.reports.Report.{Report}
 use Rattle.vg_report.specs.Answers.{IsHead}
 use Rattle.vg_report.specs.Forms.{Words, Form, title_form, count_form}
-use Rattle.vg_report.specs.Reading.{Rest, refused, with_read, cut_off, behind, line_at, a_line, then_lines, gives_head, head_of, IsRefusal, Answers, report_behind}
+use Rattle.vg_report.specs.Reading.{Rest, with_read, cut_off, behind, line_at, a_line, then_lines, head_of, IsRefusal, Answers, report_behind}
 use Rattle.vg_report.specs.Text.{Line, first_line, count_line}
 use Rattle.vg_report.specs.Words.{words}
-use Rattle.vg_report.proofs.LineShows.{shown_title, IsCount, shown_count}
+use Rattle.vg_report.proofs.LineShows.{shown_title, shown_count}
 use Rattle.vg_report.proofs.ShowLemmas.{Shown}
 
 -- a value and the rest behind it have this property, or the cause isn't want of memory

@@ -1,8 +1,7 @@
 -- For `read_is_lawful`: what the lines of a report say where they are read, their words, and what holds of their values.
-use Rattle.std.proofs.Common.{◌≡◌, ◌≢◌, ℕ, suc, ◌+◌, ◌-◌, ◌^◌, ◌<◌, ◌≤◌, Bool, true, false, cond, not, leb, List, [], ◌∷◌, ◌++◌, length, refl, sym, ap, subst, ◌∙◌, arith, leb-true, leb-false, append-nil, append_assoc, length-append}
+use Rattle.std.proofs.Common.{◌≡◌, ℕ, suc, ◌^◌, ◌<◌, ◌≤◌, Bool, true, false, cond, not, leb, List, [], ◌∷◌, ◌++◌, length, refl, sym, ap, subst, ◌∙◌, arith, leb-true, leb-false, append-nil, append_assoc, length-append}
 use Rattle.std.specs.List.{AllByRecursion}
-use Rattle.std.specs.Prelude.{◌↔◌, Option, Some, None, is_some, IsSome, IfSome, Result, Ok, Err, codes, decimal, bytes_eq}
-use Rattle.vg_model.specs.declared.fates.Leg.{Leg}
+use Rattle.std.specs.Prelude.{Option, None, IfSome, Result, Ok, Err, codes, decimal, bytes_eq}
 use Rattle.vg_model.specs.declared.kinds.DropError.{DropError}
 use Rattle.vg_model.specs.declared.kinds.DropError.TheVariants as errors
 use Rattle.vg_model.specs.Errors.{error_word}
@@ -10,10 +9,9 @@ use Rattle.vg_model.specs.Name.{IsName}
 use Rattle.vg_report.specs.declared.errors.ReportCause.{ReportCause}
 use Rattle.vg_report.specs.declared.errors.ReportCause.TheVariants as causes
 use Rattle.vg_report.specs.declared.reports.PacketEnd.{PacketEnd}
-use Rattle.vg_report.specs.declared.reports.PacketEnd.TheVariants as ends
 use Rattle.vg_report.specs.declared.reports.PacketLine.{PacketLine}
 use Rattle.vg_report.specs.declared.reports.Report.{Report}
-use Rattle.vg_report.specs.Forms.{Words, Form, read_on, gives, fails, or_else, only_where, end_of_line, a_word, a_word_of, fixed, a_number, a_running_number, a_new_name, a_declared_name, an_error, is_congestion}
+use Rattle.vg_report.specs.Forms.{Words, Form, read_on, fails, only_where, end_of_line, a_word, a_word_of, fixed, a_number, a_running_number, a_new_name, a_declared_name, an_error, is_congestion}
 use Rattle.vg_report.specs.Forms.{most_counted, most_accepted, title_form, count_form, interface_form, node_form, least_node, least_place, place_in, a_next_node, a_next_error, error_form, sent_form, dropped_form, congested_form, an_end_by, an_end, packet_form, longest_trace, with_names, trace_form}
 use Rattle.vg_report.specs.Lawful.{names, number_of, IsDeclared, error_place, IsEndLawful, IsPacketLawful, IsTraceLawful}
 use Rattle.vg_report.specs.Text.{legs_word, congested_words, end_words}

@@ -1,6 +1,6 @@
 -- Lists that grow at their end, and names in them.
 use Rattle.std.proofs.Common.{◌≡◌, ℕ, ◌+◌, Bool, true, false, cond, List, [], ◌∷◌, ◌++◌, sym, ap, refl, ◌∙◌}
-use Rattle.std.specs.Prelude.{Option, Some, None, map, bytes_eq}
+use Rattle.std.specs.Prelude.{Some, None, map, bytes_eq}
 use Rattle.std.specs.List.{position_from, AllByRecursion, IsDistinct}
 use Rattle.std.proofs.lemmas.Option.{none-some}
 use Rattle.std.proofs.lemmas.Slice.Eq.{bytes_eq-Decides}

@@ -1,9 +1,9 @@
 -- For `written_is_read_back`: lines of lawful reports, read from the words that are written.
-use Rattle.std.proofs.Common.{◌≡◌, ◌≢◌, ℕ, suc, ◌+◌, ◌-◌, ◌^◌, ◌<◌, ◌≤◌, Bool, true, false, cond, not, ◌&&◌, eqb, ltb, leb, List, [], ◌∷◌, ◌++◌, length, map}
-use Rattle.std.proofs.Common.{refl, sym, ap, subst, ◌∙◌, arith, append-nil, append_assoc, length-append, le-leb, lt-ltb}
-use Rattle.std.proofs.lemmas.Bool.{and_from, eq-eqb, ne_eqb, lt-leb}
+use Rattle.std.proofs.Common.{◌≡◌, ℕ, ◌+◌, ◌^◌, ◌<◌, ◌≤◌, Bool, true, false, cond, not, List, [], ◌∷◌, ◌++◌, length}
+use Rattle.std.proofs.Common.{refl, sym, ap, subst, ◌∙◌, arith, append-nil, append_assoc, length-append, le-leb}
+use Rattle.std.proofs.lemmas.Bool.{lt-leb}
 use Rattle.std.specs.List.{AllByRecursion, position_from}
-use Rattle.std.specs.Prelude.{◌↔◌, Option, Some, None, is_some, IsSome, IfSome, Result, Ok, Err, codes, decimal, bytes_eq}
+use Rattle.std.specs.Prelude.{Option, Some, None, is_some, IfSome, Result, Ok, Err, codes, decimal, bytes_eq}
 use Rattle.vg_model.specs.declared.fates.Leg.{Leg}
 use Rattle.vg_model.specs.declared.kinds.DropError.{DropError}
 use Rattle.vg_model.specs.declared.kinds.DropError.TheVariants as errors
@@ -15,14 +15,14 @@ use Rattle.vg_report.specs.declared.reports.PacketEnd.{PacketEnd}
 use Rattle.vg_report.specs.declared.reports.PacketEnd.TheVariants as ends
 use Rattle.vg_report.specs.declared.reports.PacketLine.{PacketLine}
 use Rattle.vg_report.specs.declared.reports.Report.{Report}
-use Rattle.vg_report.specs.Forms.{Words, Form, read_on, ◌>>=◌, gives, only_where, end_of_line, a_word, a_word_of, fixed, a_number, a_running_number, a_new_name, a_declared_name, an_error, is_congestion}
-use Rattle.vg_report.specs.Forms.{most_counted, most_accepted, title_form, count_form, interface_form, node_form, least_node, least_place, place_in, a_next_node, a_next_error, error_form, sent_form, dropped_form, congested_form, an_end_by, an_end, packet_form, longest_trace, with_names, trace_form}
-use Rattle.vg_report.specs.Lawful.{names, number_of, IsDeclared, error_place, IsEndLawful, IsPacketLawful, IsTraceLawful}
+use Rattle.vg_report.specs.Forms.{Words, Form, read_on, ◌>>=◌, gives, only_where, end_of_line, a_word_of, fixed, a_number, a_running_number, a_new_name, a_declared_name, an_error, is_congestion}
+use Rattle.vg_report.specs.Forms.{most_counted, most_accepted, title_form, count_form, interface_form, node_form, least_node, least_place, place_in, a_next_node, a_next_error, error_form, an_end, packet_form, longest_trace, with_names, trace_form}
+use Rattle.vg_report.specs.Lawful.{names, IsDeclared, error_place, IsEndLawful, IsPacketLawful, IsTraceLawful}
 use Rattle.vg_report.specs.Text.{legs_word, congested_words, end_words}
 use Rattle.vg_report.specs.Words.{legs_of}
 use Rattle.vg_report.proofs.LineShows.{IsNewEntry, congestion_is}
 use Rattle.vg_report.proofs.ListLemmas.{bytes_eq_true}
-use Rattle.vg_report.proofs.PrintWords.{reads_then, class_reads, fixed_reads, number_reads, running_reads, new_name_reads, declared_reads, error_reads, legs_reads}
+use Rattle.vg_report.proofs.PrintWords.{reads_then, fixed_reads, number_reads, running_reads, new_name_reads, declared_reads, error_reads, legs_reads}
 use Rattle.vg_report.proofs.ShowLemmas.{IsLegOf}
 
 -- a name that is declared among names is one

@@ -1,20 +1,19 @@
 -- The lines of a lawful report, read one by one.
-use Rattle.std.proofs.Common.{◌≡◌, ℕ, suc, ◌+◌, ◌*◌, ◌^◌, ◌<◌, ◌≤◌, Bool, true, false, cond, ◌&&◌, eqb, ltb, List, [], ◌∷◌, ◌++◌, length, map, refl, sym, ap, subst, ◌∙◌, arith, append-nil, append_assoc, length-append, lt-ltb}
+use Rattle.std.proofs.Common.{◌≡◌, ℕ, suc, ◌^◌, ◌<◌, ◌≤◌, true, ◌&&◌, eqb, ltb, List, [], ◌∷◌, ◌++◌, length, map, refl, sym, ap, subst, ◌∙◌, arith, append-nil, append_assoc, length-append, lt-ltb}
 use Rattle.std.proofs.lemmas.Bool.{and_from, eq-eqb}
 use Rattle.std.specs.List.{AllByRecursion, IsDistinct}
-use Rattle.std.specs.Prelude.{Option, Some, None, is_some, Result, Ok, Err, codes, bytes_eq, option_map, unwrap_or}
+use Rattle.std.specs.Prelude.{Option, Some, None, Ok, bytes_eq, option_map, unwrap_or}
 use Rattle.vg_model.specs.declared.kinds.DropError.{DropError}
 use Rattle.vg_model.specs.Name.{IsName}
-use Rattle.vg_report.specs.declared.errors.ReportCause.{ReportCause}
 use Rattle.vg_report.specs.declared.errors.ReportCause.TheVariants as causes
 use Rattle.vg_report.specs.declared.kinds.LineKind.{LineKind}
 use Rattle.vg_report.specs.declared.kinds.LineKind.TheVariants as kinds
 use Rattle.vg_report.specs.declared.reports.PacketLine.{PacketLine}
 use Rattle.vg_report.specs.declared.reports.Report.{Report}
-use Rattle.vg_report.specs.Forms.{Words, Form, read_on, gives, only_where, a_word_of, interface_form, node_form, last_error, least_node, least_place, place_in, error_form, packet_form, trace_form}
+use Rattle.vg_report.specs.Forms.{Words, read_on, gives, only_where, a_word_of, last_error, least_place, place_in}
 use Rattle.vg_report.specs.Kinds.{kind_word, kind_of}
-use Rattle.vg_report.specs.Lawful.{names, number_of, AreNamed, error_place, AreErrorsFrom, IsPacketLawful, IsTraceLawful, IsLawful}
-use Rattle.vg_report.specs.Reading.{may_follow, Said, Further, Whole, line_form, said_form, most_interfaces, most_nodes, most_traces}
+use Rattle.vg_report.specs.Lawful.{names, AreNamed, error_place, AreErrorsFrom, IsPacketLawful, IsTraceLawful, IsLawful}
+use Rattle.vg_report.specs.Reading.{may_follow, Said, Further, line_form, said_form, most_interfaces, most_nodes, most_traces}
 use Rattle.vg_report.specs.Text.{Line, numbered, interface_line, node_line, error_line, packet_line, trace_line}
 use Rattle.vg_report.proofs.BodyLemmas.{error_small}
 use Rattle.vg_report.proofs.LineShows.{IsNewEntry}

@@ -1,11 +1,10 @@
 -- The text of a lawful report, read.
-use Rattle.std.proofs.Common.{◌≡◌, ℕ, suc, ◌+◌, ◌^◌, ◌<◌, ◌≤◌, Bool, true, false, cond, ◌&&◌, eqb, ltb, List, [], ◌∷◌, ◌++◌, length, map, refl, sym, ap, subst, ◌∙◌, arith, append-nil, append_assoc, length-append, lt-ltb}
+use Rattle.std.proofs.Common.{◌≡◌, ℕ, suc, ◌+◌, ◌^◌, ◌<◌, ◌≤◌, false, cond, eqb, ltb, List, [], ◌∷◌, ◌++◌, length, map, refl, ap, ◌∙◌, arith, lt-ltb}
 use Rattle.std.proofs.lemmas.Bool.{and_from, eq-eqb}
 use Rattle.std.specs.List.{AllByRecursion}
-use Rattle.std.specs.Prelude.{Option, Some, None, IfSome, Result, Ok, Err, codes, flat_map}
+use Rattle.std.specs.Prelude.{Option, Some, None, IfSome, Result, Ok, codes, flat_map}
 use Rattle.vg_model.specs.declared.kinds.DropError.{DropError}
 use Rattle.vg_model.specs.Name.{IsName}
-use Rattle.vg_report.specs.declared.errors.ReportCause.{ReportCause}
 use Rattle.vg_report.specs.declared.errors.ReportError.{ReportError}
 use Rattle.vg_report.specs.declared.kinds.LineKind.TheVariants as kinds
 use Rattle.vg_report.specs.declared.reading.Head.{Head}
@@ -15,11 +14,11 @@ use Rattle.vg_report.specs.declared.reports.PacketLine.{PacketLine}
 use Rattle.vg_report.specs.declared.reports.Report.{Report}
 use Rattle.vg_report.specs.Forms.{Words, Form, title_form, count_form}
 use Rattle.vg_report.specs.Lawful.{names, IsDeclared, error_place, AreErrorsFrom, IsEndLawful, IsPacketLawful, IsTraceLawful, IsLawful}
-use Rattle.vg_report.specs.Reading.{Text, onto, text_of, Rest, Said, Further, Whole, said_form, with_read, behind, line_at, a_line, ended, with_said, body_at, begun, then_lines, ◌>>>◌, gives_head, head_of, report_behind, report_of}
+use Rattle.vg_report.specs.Reading.{Text, onto, text_of, Rest, Said, Whole, said_form, with_read, behind, line_at, a_line, ended, with_said, body_at, begun, then_lines, ◌>>>◌, gives_head, head_of, report_behind, report_of}
 use Rattle.vg_report.specs.RoundTrip.{ReadsBack, TextsDiffer}
-use Rattle.vg_report.specs.Text.{Line, line_text, numbered, first_line, count_line, head_lines, interface_line, node_line, error_line, congested_words, end_words, packet_line, trace_line, last_line, lines, text}
+use Rattle.vg_report.specs.Text.{Line, line_text, numbered, first_line, count_line, head_lines, interface_line, node_line, error_line, congested_words, end_words, packet_line, trace_line, last_line, text}
 use Rattle.vg_report.specs.Words.{words}
-use Rattle.vg_report.proofs.HeadLemmas.{joined_text, head_words}
+use Rattle.vg_report.proofs.HeadLemmas.{joined_text}
 use Rattle.vg_report.proofs.ListLemmas.{all_weaken}
 use Rattle.vg_report.proofs.PrintForms.{declared_is_name, both_bounds, count_reads}
 use Rattle.vg_report.proofs.PrintSteps.{Steps, said_reads, names_are, all_steps}

@@ -1,5 +1,5 @@
 -- For `written_is_read_back`: words that are written, and read.
-use Rattle.std.proofs.Common.{◌≡◌, ℕ, zero, suc, ◌+◌, ◌-◌, ◌^◌, ◌<◌, ◌≤◌, Bool, true, false, cond, not, ◌&&◌, ◌||◌, ◌==◌, eqb, ltb, leb, List, [], ◌∷◌, ◌++◌, length, take, drop, get_or, map, All}
+use Rattle.std.proofs.Common.{◌≡◌, ℕ, zero, suc, ◌+◌, ◌^◌, ◌<◌, ◌≤◌, Bool, true, false, cond, not, ◌&&◌, ◌||◌, ◌==◌, eqb, ltb, leb, List, [], ◌∷◌, ◌++◌, length, take, drop, get_or, map, All}
 use Rattle.std.proofs.Common.{refl, sym, ap, ◌∙◌, add-one, arith, append_assoc, append-nil, length-append, ltb-true}
 use Rattle.std.proofs.lemmas.Bool.{and_from, and_parts, le-leb, lt-ltb, eq-eqb, ne_eqb, not_from_false, or_right, cond-true, lt-leb}
 use Rattle.std.proofs.lemmas.Bool.Decides.{nat_tests}
@@ -8,8 +8,8 @@ use Rattle.std.proofs.lemmas.List.Elements.{recursion_from_All, All-from_recursi
 use Rattle.std.proofs.lemmas.List.Splits.{slice_split_at, slice_split_none}
 use Rattle.std.proofs.lemmas.Str.Parse.{digit_from_value}
 use Rattle.std.specs.Char.{is_ascii_digit}
-use Rattle.std.specs.List.{AllByRecursion, list_all, join_with_byte, slice_split, before_first, after_first, position_or_len}
-use Rattle.std.specs.Prelude.{Option, Some, None, is_some, Result, Ok, Err, codes, decimal, bytes_eq}
+use Rattle.std.specs.List.{AllByRecursion, list_all, slice_split, before_first, after_first, position_or_len}
+use Rattle.std.specs.Prelude.{Option, Some, None, is_some, Result, Ok, Err, decimal, bytes_eq}
 use Rattle.std.specs.Str.Parse.{AllDigits, digits_value}
 use Rattle.vg_model.specs.declared.fates.Leg.{Leg}
 use Rattle.vg_model.specs.declared.kinds.DropError.{DropError}
@@ -18,9 +18,9 @@ use Rattle.vg_model.specs.Errors.{error_word}
 use Rattle.vg_model.specs.Name.{IsName, is_name_byte}
 use Rattle.vg_report.specs.declared.errors.ReportCause.{ReportCause}
 use Rattle.vg_report.specs.declared.errors.ReportCause.TheVariants as causes
-use Rattle.vg_report.specs.Forms.{Words, Form, read_on, gives, or_else, only_where, a_word, a_word_of, fixed, a_number, a_running_number, a_new_name, a_declared_name, an_error}
+use Rattle.vg_report.specs.Forms.{Words, Form, read_on, gives, or_else, only_where, a_word_of, fixed, a_number, a_running_number, a_new_name, a_declared_name, an_error}
 use Rattle.vg_report.specs.Lawful.{number_of, IsDeclared}
-use Rattle.vg_report.specs.Text.{Line, leg_text, legs_word}
+use Rattle.vg_report.specs.Text.{leg_text, legs_word}
 use Rattle.vg_report.specs.Words.{◌>>=◌, name_of, is_decimal, number_within, number_below, leg_of, with_legs, legs_of, most_legs, error_of, words}
 use Rattle.vg_report.proofs.HeadLemmas.{joined_text}
 use Rattle.vg_report.proofs.ListLemmas.{all_weaken, bytes_eq_same}

@@ -1,18 +1,17 @@
 -- A report that is read: it is lawful, and its text is the text that was read.
-use Rattle.std.proofs.Common.{◌≡◌, ◌≢◌, ℕ, suc, ◌+◌, ◌<◌, ◌≤◌, Bool, true, false, cond, eqb, List, [], ◌∷◌, ◌++◌, length, map, refl, sym, ap, subst, ◌∙◌, arith, eqb-true, append-nil, append_assoc}
-use Rattle.std.proofs.lemmas.Grind.{flat_map-append}
+use Rattle.std.proofs.Common.{◌≡◌, ℕ, suc, ◌<◌, Bool, true, false, cond, eqb, List, [], ◌∷◌, ◌++◌, length, map, refl, sym, ap, subst, ◌∙◌, arith, eqb-true, append-nil, append_assoc}
 use Rattle.std.proofs.lemmas.List.Splits.{join_with_byte-slice_split}
-use Rattle.std.specs.Prelude.{Result, Ok, Err, flat_map, codes}
+use Rattle.std.specs.Prelude.{Result, Ok, Err, flat_map}
 use Rattle.vg_report.specs.declared.errors.ReportCause.{ReportCause}
 use Rattle.vg_report.specs.declared.errors.ReportError.{ReportError}
 use Rattle.vg_report.specs.declared.reading.Head.{Head}
 use Rattle.vg_report.specs.declared.reports.Report.{Report}
 use Rattle.vg_report.specs.Forms.{Words}
 use Rattle.vg_report.specs.Lawful.{IsLawful}
-use Rattle.vg_report.specs.Reading.{Text, onto, with_byte, text_of, Rest, Said, Further, Whole, said_form, with_read, cut_off, ended, with_said, body_at, begun, head_of, then_lines, report_behind, report_of}
+use Rattle.vg_report.specs.Reading.{Text, onto, text_of, Rest, Said, Further, Whole, said_form, with_read, cut_off, ended, with_said, body_at, begun, head_of, then_lines, report_behind}
 use Rattle.vg_report.specs.RoundTrip.{ReadsLawful}
 use Rattle.vg_report.specs.SoFar.{IsSoFar}
-use Rattle.vg_report.specs.Text.{Line, line_text, numbered, count_line, head_lines, interface_line, node_line, error_line, packet_line, trace_line, last_line, lines, text}
+use Rattle.vg_report.specs.Text.{Line, line_text, numbered, head_lines, interface_line, node_line, error_line, packet_line, trace_line, last_line, lines, text}
 use Rattle.vg_report.specs.Words.{words}
 use Rattle.vg_report.proofs.BodyLemmas.{begun_so_far}
 use Rattle.vg_report.proofs.HeadLemmas.{ShownAt, joined_text, head_words, IsHeadOf, shown_head}

@@ -1,33 +1,32 @@
 -- Texts that are cut at the first byte of a kind.
-use Rattle.std.proofs.Common.{◌≡◌, ◌==◌, ℕ, suc, ◌+◌, ◌-◌, ◌<◌, ◌≤◌, Bool, true, false, cond, ltb, List, [], ◌∷◌, length, take, drop, Bor, not, refl, sym, subst, ap, ◌∙◌, arith, ltb-true, ltb-false}
-use Rattle.std.specs.Prelude.{Option, Some, None, is_some}
+use Rattle.std.proofs.Common.{◌≡◌, ◌==◌, ℕ, suc, ◌+◌, ◌-◌, ◌<◌, ◌≤◌, Bool, true, false, List, [], ◌∷◌, length, take, drop, Bor, not, refl, sym, subst, ap, ◌∙◌, arith}
+use Rattle.std.specs.Prelude.{Option, Some, None, is_some, get_or}
 use Rattle.std.specs.Option.{option_copied}
 use Rattle.std.specs.List.{position_or_len, before_first, after_first, slice_split, onto_first}
 use Rattle.std.proofs.lemmas.List.{take_rest}
+use Rattle.std.proofs.lemmas.List.Sums.{position_or_len_is}
 use Rattle.std.proofs.lemmas.List.Splits.{slice_split_first, length-slice_split}
+use Rattle.memchr.specs.Find.{IsFirstByte, is_byte}
 use Rattle.vg_report.specs.Parts.{IsCut, parts_of}
 
--- where a search found a place
-pub at_first : {X : Type 0} (p : X → Bool) (xs : List X) (place : ℕ)
-    → Some place ≡ cond (ltb (position_or_len p xs) (length xs)) (Some (position_or_len p xs)) None
-    → (place ≡ position_or_len p xs) × (position_or_len p xs < length xs)
-at_first p xs place h = by_test (ltb (position_or_len p xs) (length xs)) refl h
+-- where a search for a byte found a place, and where it found none
+is_not : (mark byte : ℕ) → ¬ ((byte == mark) ≡ true) → (byte == mark) ≡ false
+is_not mark byte h = by_test (byte == mark) h
   where
-    by_test : (b : Bool) → ltb (position_or_len p xs) (length xs) ≡ b → Some place ≡ cond b (Some (position_or_len p xs)) None
-        → (place ≡ position_or_len p xs) × (position_or_len p xs < length xs)
-    by_test true e h = let same : place ≡ position_or_len p xs = cc in (same, ltb-true _ _ e)
-    by_test false e h = absurd cc
+    by_test : (b : Bool) → ¬ (b ≡ true) → b ≡ false
+    by_test true h = absurd (h refl)
+    by_test false h = refl
 
--- where it found none
-pub at_no_first : {X : Type 0} (p : X → Bool) (xs : List X)
-    → None ≡ cond (ltb (position_or_len p xs) (length xs)) (Some (position_or_len p xs)) None
-    → length xs ≤ position_or_len p xs
-at_no_first p xs h = by_test (ltb (position_or_len p xs) (length xs)) refl h
-  where
-    by_test : (b : Bool) → ltb (position_or_len p xs) (length xs) ≡ b → None ≡ cond b (Some (position_or_len p xs)) None
-        → length xs ≤ position_or_len p xs
-    by_test true e h = absurd cc
-    by_test false e h = ltb-false _ _ e
+pub at_first : (mark : ℕ) (text : List ℕ) (place : ℕ) → IsFirstByte (is_byte mark) text (Some place)
+    → (place ≡ position_or_len (λ byte. byte == mark) text) × (position_or_len (λ byte. byte == mark) text < length text)
+at_first mark text place h =
+    let is = position_or_len_is (λ byte. byte == mark) text place 0 (omega (arith, h.0.high)) (λ k below. is_not mark (get_or text k 0) (h.0.before k (omega arith) below)) (λ within. h.1) in
+    (sym is, subst (λ n. n < length text) (sym is) h.0.high)
+
+pub at_no_first : (mark : ℕ) (text : List ℕ) → IsFirstByte (is_byte mark) text None → length text ≤ position_or_len (λ byte. byte == mark) text
+at_no_first mark text h =
+    let is = position_or_len_is (λ byte. byte == mark) text (length text) 0 (omega arith) (λ k below. is_not mark (get_or text k 0) (h k (omega arith) below)) (λ within. absurd (omega (arith, within))) in
+    subst (λ n. length text ≤ n) (sym is) (omega arith)
 
 -- what stands before the place, and what stands behind it
 pub before_place : {X : Type 0} (p : X → Bool) (xs : List X) (place : ℕ) → place ≡ position_or_len p xs → take place xs ≡ before_first p xs

@@ -1,22 +1,20 @@
 -- For `read_is_lawful` and `written_is_read_back`: a line that goes on with a report so far.
-use Rattle.std.proofs.Common.{◌≡◌, ◌≢◌, ℕ, zero, suc, ◌+◌, ◌-◌, ◌^◌, ◌<◌, ◌≤◌, Bool, true, false, cond, not, ◌&&◌, eqb, ltb, leb, List, [], ◌∷◌, ◌++◌, length, map}
-use Rattle.std.proofs.Common.{refl, sym, ap, subst, ◌∙◌, arith, ltb-true, leb-true, eqb-true, append-nil, append_assoc, add-zero, length-append}
+use Rattle.std.proofs.Common.{◌≡◌, ℕ, zero, suc, ◌+◌, ◌-◌, ◌^◌, ◌<◌, ◌≤◌, true, ◌&&◌, eqb, ltb, List, [], ◌∷◌, ◌++◌, length, map}
+use Rattle.std.proofs.Common.{refl, sym, ap, subst, ◌∙◌, arith, ltb-true, eqb-true, append-nil, append_assoc, add-zero, length-append}
 use Rattle.std.proofs.lemmas.Bool.{and_parts}
-use Rattle.std.proofs.Math.ListN.{length-map}
 use Rattle.std.specs.List.{AllByRecursion, IsDistinct}
-use Rattle.std.specs.Prelude.{Option, Some, None, IfSome, Result, Ok, Err, codes, bytes_eq, slice_get, option_map, unwrap_or, find}
+use Rattle.std.specs.Prelude.{Option, Some, None, IfSome, codes, bytes_eq, slice_get, option_map, unwrap_or}
 use Rattle.vg_model.specs.declared.kinds.DropError.{DropError}
 use Rattle.vg_model.specs.Name.{IsName}
-use Rattle.vg_report.specs.declared.errors.ReportCause.{ReportCause}
 use Rattle.vg_report.specs.declared.errors.ReportCause.TheVariants as causes
 use Rattle.vg_report.specs.declared.kinds.LineKind.{LineKind}
 use Rattle.vg_report.specs.declared.kinds.LineKind.TheVariants as kinds
 use Rattle.vg_report.specs.declared.reports.PacketLine.{PacketLine}
 use Rattle.vg_report.specs.declared.reports.Report.{Report}
 use Rattle.vg_report.specs.Answers.{lines_read}
-use Rattle.vg_report.specs.Forms.{Words, Form, read_on, gives, or_else, only_where, end_of_line, a_word, a_word_of, interface_form, node_form, last_error, least_place, error_form, packet_form, trace_form}
+use Rattle.vg_report.specs.Forms.{Words, only_where, end_of_line, a_word_of, interface_form, node_form, least_place, error_form, packet_form, trace_form}
 use Rattle.vg_report.specs.Kinds.{kind_word, all_kinds, kind_of}
-use Rattle.vg_report.specs.Lawful.{names, number_of, IsDeclared, error_place, AreErrorsFrom, IsPacketLawful, IsTraceLawful}
+use Rattle.vg_report.specs.Lawful.{names, IsDeclared, error_place, AreErrorsFrom, IsPacketLawful, IsTraceLawful}
 use Rattle.vg_report.specs.Reading.{may_follow, Said, Further, Whole, line_form, said_form, most_interfaces, most_nodes, most_traces}
 use Rattle.vg_report.specs.SoFar.{AreNamedSoFar, IsSoFar}
 use Rattle.vg_report.specs.Text.{Line, numbered, interface_line, node_line, error_line, packet_line, trace_line, last_line}

@@ -1,6 +1,6 @@
 -- The lines of texts.
-use Rattle.std.proofs.Common.{◌≡◌, ◌==◌, ℕ, suc, ◌+◌, ◌-◌, ◌<◌, ◌≤◌, Bool, true, false, cond, not, List, [], ◌∷◌, length, take, drop, refl, sym, subst, ap, ◌∙◌, arith}
-use Rattle.std.specs.Prelude.{Option, Some, None, Result, Ok, Err}
+use Rattle.std.proofs.Common.{◌≡◌, ◌==◌, ℕ, suc, ◌+◌, ◌<◌, ◌≤◌, Bool, true, false, cond, List, [], ◌∷◌, length, take, drop, refl, sym, subst, ap, ◌∙◌, arith}
+use Rattle.std.specs.Prelude.{Some, None, Result, Ok, Err}
 use Rattle.std.specs.List.{position_or_len, before_first, after_first}
 use Rattle.vg_report.specs.declared.errors.ReportCause.{ReportCause}
 use Rattle.vg_report.specs.declared.errors.ReportCause.TheVariants as causes
@@ -9,7 +9,7 @@ use Rattle.vg_report.specs.declared.reports.Report.{Report}
 use Rattle.vg_report.specs.Answers.{found, line_found, line_answer, IsNext, with_end}
 use Rattle.vg_report.specs.Forms.{Words, Form}
 use Rattle.vg_report.specs.Parts.{IsCut}
-use Rattle.vg_report.specs.Reading.{Text, onto, with_byte, text_of, Rest, refused, with_read, cut_off, behind, line_at, a_line, ended}
+use Rattle.vg_report.specs.Reading.{Text, onto, text_of, Rest, refused, with_read, cut_off, behind, line_at, a_line, ended}
 use Rattle.vg_report.specs.Words.{words}
 
 -- a line feed

@@ -1,5 +1,5 @@
 -- What words mean, in the steps in which they are read.
-use Rattle.std.proofs.Common.{◌≡◌, ℕ, ◌^◌, ◌<◌, ◌≤◌, Bool, true, false, cond, not, ◌&&◌, ◌||◌, ltb, leb, eqb, List, length, get_or, refl, sym, ap, ◌∙◌, arith, true≢false, ltb-true, lt-ltb, le-leb, leb-true, ne_eqb, IsUtf8, rules}
+use Rattle.std.proofs.Common.{◌≡◌, ℕ, ◌^◌, ◌<◌, Bool, true, false, cond, not, ◌&&◌, ◌||◌, ltb, leb, eqb, List, length, get_or, refl, sym, ap, ◌∙◌, arith, true≢false, ltb-true, lt-ltb, le-leb, leb-true, ne_eqb, IsUtf8, rules}
 use Rattle.std.proofs.lemmas.Bool.{and_parts, and_from, and_right, lt-leb}
 use Rattle.std.specs.Prelude.{Option, Some, None, is_some, IfSome, ◌↔◌, Err}
 use Rattle.std.specs.Char.{is_ascii_digit}

@@ -55,6 +55,17 @@ impl From<AllocError> for ReportCause {
     }
 }
 
+impl From<AllocError> for ReportError {
+    ghost from_gives = { λ _ error. error ≡ record { line = 0; cause = OutOfMemory } };
+
+    fn from(_error: AllocError) -> ReportError {
+        ReportError {
+            line: 0,
+            cause: ReportCause::Memory,
+        }
+    }
+}
+
 impl fmt::Display for ReportError {
     fn fmt<W: fmt::Write>(&self, f: &mut fmt::Formatter<W>) -> fmt::Result {
         let line = self.line;

@@ -191,6 +191,7 @@ impl PacketLines {
     }
 
     /// What became of a packet.
+    #[inline]
     pub fn get(&self, number: usize) -> LineRef<'_>
         requires { number < length self.now }
         ensures { slice_get self.now number ≡ Some (line_seen result) }
@@ -225,6 +226,7 @@ impl PacketLines {
 }
 
 // What became of a packet with this fate, by the names of interfaces and nodes.
+#[inline]
 fn line_of<'a>(interfaces: &'a [Name], nodes: &'a [Name], fate: FateRef<'a>) -> LineRef<'a>
     requires { IsNamed interfaces.now nodes.now (fate_seen fate).end }
     ensures { line_seen result ≡ line_by interfaces.now nodes.now (fate_seen fate.entry) }
@@ -244,6 +246,7 @@ fn line_of<'a>(interfaces: &'a [Name], nodes: &'a [Name], fate: FateRef<'a>) -> 
 }
 
 // An end by the names of interfaces and nodes.
+#[inline]
 fn named<'a>(interfaces: &'a [Name], nodes: &'a [Name], end: End) -> EndRef<'a>
     requires { IsNamed interfaces.now nodes.now end }
     ensures { end_seen result ≡ end_by interfaces.now nodes.now end }

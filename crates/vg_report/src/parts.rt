@@ -3,13 +3,14 @@ ghost use Rattle.std.specs.Prelude.{◌≡◌, ◌==◌, [], ◌∷◌, MatchOpt
 ghost use Rattle.std.specs.List.{slice_split};
 ghost use Rattle.vg_report.specs.Parts.{IsCut};
 
+use memchr::memchr;
 use std::marker::Model;
 
 /// What stands before the first such byte, and what stands behind it; `None` where there is none.
 pub fn cut_at_first(text: &[u8], mark: u8) -> Option<(&[u8], &[u8])>
     ensures { MatchOption result (IsCut mark text.now None) (λ cut. IsCut mark text.now (Some (cut.0.now, cut.1.now))) }
 {
-    match text.iter().position(|byte| *byte == mark) {
+    match memchr(mark, text) {
         Some(place) => Some((&text[..place], &text[place + 1..])),
         None => None,
     }

@@ -12,7 +12,7 @@ use crate::lines;
 use crate::lists::{ErrorCounts, NameCounts, PacketLines, TraceLines};
 use crate::parts::{Parts, cut_at_first};
 use crate::reports::Report;
-use std::alloc::Global;
+use std::alloc::{AllocError, Global};
 use std::marker::Model;
 use vg_model::limits::{
     MOST_BUFFERS, MOST_EVENTS, MOST_INTERFACES, MOST_NODES, MOST_PACKETS, MOST_TRACED, MOST_WORKERS,
@@ -275,20 +275,21 @@ fn said(
     said_by(alloc, report, kind, words)
 }
 
-/// A report with nothing behind its first five lines.
-fn begun(alloc: Global, head: &Head) -> Report
-    ensures { result ≡ begun_by head.now }
+/// A report with nothing behind its first five lines, and room for its packets.
+fn begun(alloc: Global, head: &Head) -> Result<Report, AllocError>
+    ensures { IfOk result (λ report. report ≡ begun_by head.now) }
 {
-    Report {
+    let packets = Vec::with_capacity(alloc, head.packets as usize)?;
+    Ok(Report {
         workers: head.workers,
         buffers: head.buffers,
         generations: head.generations,
         interfaces: NameCounts::from_vec(Vec::new(alloc)),
         nodes: NameCounts::from_vec(Vec::new(alloc)),
         errors: ErrorCounts::from_vec(Vec::new(alloc)),
-        packets: PacketLines::new(alloc),
+        packets: PacketLines::from_vec(packets),
         traces: TraceLines::from_vec(Vec::new(alloc)),
-    }
+    })
 }
 
 /// The report of the lines behind the first five.
@@ -297,7 +298,7 @@ fn body(alloc: Global, lines: &mut Lines, head: &Head) -> Result<Report, ReportE
     requires head { IsHead head.now }
     ensures { Answers (report_behind head.now lines.old) result }
 {
-    let mut report = begun(alloc, head);
+    let mut report = begun(alloc, head)?;
     loop {
         if !lines.further(alloc, &mut report, head.packets)? {
             lines.end()?;

@@ -3,7 +3,7 @@ use Rattle.vg_report.proofs.BodyLemmas.{read_start, lines_few}
 use Rattle.vg_report.proofs.reading.body.Goals as goal
 
 pub loop-report-init : goal.loop-report-init
-loop-report-init c = read_start c.args.head.now c.args.lines.now c.begun-report.result c.begun-report.ensures c.requires.head c.requires.number
+loop-report-init c = read_start c.args.head.now c.args.lines.now c.in_ok-report.report c.in_ok-report.ensures c.requires.head c.requires.number
 
 pub further-requires-clause-room : goal.further-requires-clause-room
 further-requires-clause-room c =

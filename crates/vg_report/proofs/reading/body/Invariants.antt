@@ -1,7 +1,4 @@
-use Rattle.std.proofs.Common.{◌≡◌, ◌+◌, length}
-use Rattle.vg_report.specs.Answers.{lines_read}
-use Rattle.vg_report.specs.Reading.{body, report_behind}
-use Rattle.vg_report.specs.SoFar.{IsSoFar}
+use Rattle.std.proofs.Common.{length}
 use Rattle.vg_report.proofs.BodyLemmas.{IsRead}
 use Rattle.vg_report.proofs.reading.body.Given as goal
 

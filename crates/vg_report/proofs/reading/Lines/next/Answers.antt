@@ -1,5 +1,5 @@
-use Rattle.std.proofs.Common.{◌≡◌, suc, ◌+◌, refl, sym, ap, arith}
-use Rattle.vg_report.specs.Reading.{Rest, Text, text_of}
+use Rattle.std.proofs.Common.{◌≡◌, ◌+◌, refl, sym, ap, arith}
+use Rattle.vg_report.specs.Reading.{Rest, text_of}
 use Rattle.vg_report.proofs.TextLemmas.{next_line, no_next_line}
 use Rattle.vg_report.proofs.reading.Lines.next.Goals as goal
 
