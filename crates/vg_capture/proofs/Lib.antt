@@ -3,5 +3,5 @@ pub mod RecordLemmas
 pub mod LimitLemmas
 pub mod RoundTripLemmas
 pub mod TimeLemmas
-mod WriteLemmas
+pub mod WriteLemmas
 mod PlaceLemmas

@@ -1,11 +1,12 @@
 -- For `put_header`, `move_back` and `put_record`: bytes that are written into a list, one part after the other.
 use Rattle.std.proofs.Common.{◌≡◌, ℕ, ◌+◌, ◌-◌, ◌≤◌, List, [], ◌++◌, length, take, drop, refl, sym, ap, ◌∙◌, arith, append_assoc}
-use Rattle.std.specs.Prelude.{Some, None, slice_get, option_map, unwrap_or}
+use Rattle.std.specs.Prelude.{Some, slice_get, option_map}
 use Rattle.std.proofs.lemmas.List.{drop-drop, take-take, take_at, drop_at, take-append-le, length-append, length-take-le}
 use Rattle.vg_capture.specs.declared.captures.Captured.{Captured}
 use Rattle.vg_capture.specs.declared.captures.Marks.{Marks}
 use Rattle.vg_capture.specs.Places.{head_of, marks_of}
-use Rattle.vg_capture.specs.Savefile.{sent_in, record_of}
+use Rattle.vg_capture.specs.Savefile.{sent_in}
+use Rattle.vg_capture.proofs.WriteLemmas.{sent_is}
 
 -- bytes over those from a place on, and then bytes over those behind them
 pub behind : (l l1 l2 xs ys : List ℕ) (at p q : ℕ) → p ≡ at + length xs → q ≡ p + length ys → q ≤ length l
@@ -35,16 +36,6 @@ in_front l l1 l2 head body at to end to_is end_is within first second =
     ∙ ap (λ z. z ++ (head ++ drop to (take to l ++ (body ++ drop end l)))) front
     ∙ ap (λ z. take at l ++ (head ++ z)) rest
     ∙ ap (λ z. take at l ++ z) (sym (append_assoc head body (drop end l)))
-
--- the record of a packet with these marks
-pub sent_is : (packets : List Captured) (number : ℕ) (bytes : List ℕ) (marks : Marks) → option_map marks_of (slice_get packets number) ≡ Some marks
-    → head_of marks (length bytes) ++ bytes ≡ sent_in packets (number, bytes)
-sent_is packets number bytes marks found =
-    elim (slice_get packets number) as (λ o. option_map marks_of o ≡ Some marks
-    → head_of marks (length bytes) ++ bytes ≡ unwrap_or (option_map (λ captured. record_of captured bytes) o) []) [
-      | Some captured ↦ λ e. let same : marks_of captured ≡ marks = cc in ap (λ m. head_of m (length bytes) ++ bytes) (sym same)
-      | None ↦ λ e. absurd (let bad : ⊥ = cc in bad)
-    ] found
 
 -- four numbers, one behind the other
 pub four_behind : (l l1 l2 l3 l4 s f n o : List ℕ) (at : ℕ) → length s ≡ 4 → length f ≡ 4 → length n ≡ 4 → length o ≡ 4 → at + 16 ≤ length l
