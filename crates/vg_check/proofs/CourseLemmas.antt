@@ -1,133 +1,34 @@
 -- For `ip4_never_congests`: the steps of the IPv4 kinds, of which none drops by congestion. And for `verdict`: how many legs a journey has and on which workers, and how many visits.
-use Rattle.std.proofs.Common.{◌≡◌, ◌≢◌, ℕ, zero, suc, ◌+◌, ◌*◌, ◌<◌, ◌≤◌, Bool, true, false, List, [], ◌∷◌, ◌++◌, length, take, refl, subst, arith, length-append}
-use Rattle.std.specs.Prelude.{Option, Some, None, option_map, unwrap_or, not, nat_lt, slice_get, if◌then◌else◌, ◌||◌, ◌==◌, ◌%◌}
+use Rattle.std.proofs.Common.{◌≡◌, ◌≢◌, ℕ, zero, suc, ◌+◌, ◌*◌, ◌<◌, ◌≤◌, Bool, true, false, List, [], ◌∷◌, ◌++◌, length, refl, ap, subst, arith, length-append}
+use Rattle.std.specs.Prelude.{Option, Some, None, nat_lt, slice_get, if◌then◌else◌, ◌==◌, ◌%◌}
 use Rattle.std.specs.List.{AllByRecursion}
 use Rattle.std.proofs.Math.Nat.{mod-lt}
 use Rattle.std.proofs.lemmas.Bool.{eqb-false}
 use Rattle.std.proofs.lemmas.Option.{none-some, same_Some}
-use Rattle.vg_model.specs.declared.kinds.Kind.{Kind}
-use Rattle.vg_model.specs.declared.kinds.Kind.TheVariants as kinds
-use Rattle.vg_model.specs.declared.kinds.DropError.{DropError}
 use Rattle.vg_model.specs.declared.kinds.DropError.TheVariants as errors
-use Rattle.vg_model.specs.declared.kinds.HashKind.TheVariants.{Flow}
 use Rattle.vg_model.specs.declared.kinds.Step.{Step}
 use Rattle.vg_model.specs.declared.kinds.Step.TheVariants as steps
-use Rattle.vg_model.specs.declared.kinds.Adjacency.{Adjacency}
-use Rattle.vg_model.specs.declared.kinds.Interface.{Interface}
-use Rattle.vg_model.specs.declared.routes.RouteTo.{RouteTo}
-use Rattle.vg_model.specs.declared.routes.RouteTo.TheVariants as routes
 use Rattle.vg_model.specs.declared.fates.Leg.{Leg}
-use Rattle.vg_model.specs.Bytes.{number16_at}
-use Rattle.vg_model.specs.Header.{verifies}
 use Rattle.vg_model.specs.Packet.{Packet, fresh}
-use Rattle.vg_model.specs.Graph.{Graph, arc, kind_at, pg_input, handoff_dequeue}
-use Rattle.vg_model.specs.Hash.{flow_hash, target_worker}
-use Rattle.vg_model.specs.Route.{best_route}
-use Rattle.vg_model.specs.Visit.{Visit, is_foreign, transmit_interface, dropped, next, header_fault, ip4_input, forwarded, over_interface, over_adjacency, visit_of, ip4_visit, datagram, destination, adjacency_of, version, header_len, total_len, time_to_live}
+use Rattle.vg_model.specs.Graph.{Graph, arc, pg_input, handoff_dequeue}
+use Rattle.vg_model.specs.Hash.{target_worker}
+use Rattle.vg_model.specs.Visit.{Visit, ip4_visit}
 use Rattle.vg_model.specs.Leg.{Outcome, Sent, Dropped, Handed, Way, Move, Onward, Over, handed, move_of, joined, after_visit, leg_within, most_legs, first_slot, ends_at}
 use Rattle.vg_model.specs.Journey.{Course, started, first_leg, leg_from, legs_from, handed_over, last_leg, then_course, longest_packet}
 use Rattle.vg_model.proofs.Journeys.{map_some, then_some}
 use Rattle.vg_model.proofs.LegEnds.{all_at}
+use Rattle.vg_model.proofs.KindLaws.{ip4_uncongested}
 use Rattle.vg_plan.specs.Plan.{IsGeneration}
 use Rattle.vg_check.specs.Congestion.{IsOwnStep, NeverCongests}
 
 -- ---- no node drops a packet by congestion: only a full queue does
 
--- the steps of nodes, by their tests
-ethernet_by : (p : Packet) (short foreign other_type : Bool)
-    → IsOwnStep (if short then dropped errors.Short p else if foreign then dropped errors.WrongMac p else if other_type then dropped errors.UnknownType p else next p).0
-ethernet_by p true b c = λ e. cc
-ethernet_by p false true c = λ e. cc
-ethernet_by p false false true = λ e. cc
-ethernet_by p false false false = tt
+own_step : (step : Step) → step ≢ steps.Dropped errors.Congestion → IsOwnStep step
+own_step (steps.Dropped error) h = λ e. h (ap steps.Dropped e)
+own_step step h = tt
 
-unchecked_by : (p : Packet) (unchecked : Bool) (after : Step × Packet) → IsOwnStep after.0 → IsOwnStep (if unchecked then dropped errors.Unchecked p else after).0
-unchecked_by p true after h = λ e. cc
-unchecked_by p false after h = h
-
-sent_by : (p after : Packet) (expired long : Bool) → IsOwnStep (if expired then dropped errors.TtlExpired p else if long then dropped errors.MtuExceeded p else next after).0
-sent_by p after true b = λ e. cc
-sent_by p after false true = λ e. cc
-sent_by p after false false = tt
-
-output_by : (p : Packet) (up : Bool) → IsOwnStep (if up then next p else dropped errors.InterfaceDown p).0
-output_by p true = tt
-output_by p false = λ e. cc
-
--- a fault that is no congestion
-abbrev IsOwnFault : Option DropError → Type 0
-IsOwnFault None = Unit {0}
-IsOwnFault (Some error) = error ≢ errors.Congestion
-
--- the first fault of a header is none of a queue
-fault_by : (short version header total checksum zero_ttl : Bool)
-    → IsOwnFault (if short then Some errors.Short else if version then Some errors.BadVersion else if header then Some errors.BadHeaderLength
-    else if total then Some errors.BadLength else if checksum then Some errors.BadChecksum else if zero_ttl then Some errors.TtlZero else None)
-fault_by true b c d e f = λ e. cc
-fault_by false true c d e f = λ e. cc
-fault_by false false true d e f = λ e. cc
-fault_by false false false true e f = λ e. cc
-fault_by false false false false true f = λ e. cc
-fault_by false false false false false true = λ e. cc
-fault_by false false false false false false = tt
-
-own_fault : (d : List ℕ) → IsOwnFault (header_fault d)
-own_fault d =
-    fault_by (nat_lt (length d) 20) (not (version d == 4)) (nat_lt (header_len d) 20 || nat_lt (length d) (header_len d))
-    (nat_lt (total_len d) (header_len d) || nat_lt (length d) (total_len d)) (not (verifies (take (header_len d) d))) (time_to_live d == 0)
-
-own_input : (p : Packet) → IsOwnStep (ip4_input p).0
-own_input p = by_fault (header_fault (datagram p)) (own_fault (datagram p))
-  where
-    by_fault : (o : Option DropError) → IsOwnFault o → IsOwnStep (unwrap_or (option_map (λ error. dropped error p) o) (next (record p { checked = true }))).0
-    by_fault None h = tt
-    by_fault (Some error) h = h
-
-own_forwarded : (o : Option RouteTo) (hash : ℕ) (p : Packet) → IsOwnStep (forwarded o hash p).0
-own_forwarded None hash p = λ e. cc
-own_forwarded (Some routes.Drop) hash p = λ e. cc
-own_forwarded (Some routes.Local) hash p = λ e. cc
-own_forwarded (Some (routes.Via members)) hash p = tt
-
-own_over : (g : Graph) (o : Option Adjacency) (p : Packet) → IsOwnStep (over_adjacency g o p).0
-own_over g None p = λ e. cc
-own_over g (Some adjacency) p = by_interface (slice_get g.interfaces adjacency.interface)
-  where
-    by_interface : (o : Option Interface) → IsOwnStep (over_interface adjacency o p).0
-    by_interface None = λ e. cc
-    by_interface (Some interface) = sent_by p _ (time_to_live (datagram p) == 1) (nat_lt interface.mtu (total_len (datagram p)))
-
-own_kind : (kind : Kind) (g : Graph) (p : Packet) → IsOwnStep (visit_of kind g p).0
-own_kind kinds.EthernetInput g p =
-    ethernet_by p (nat_lt (length p.bytes) 14) (unwrap_or (option_map (λ i. is_foreign i p.bytes) (slice_get g.interfaces 0)) true) (not (number16_at p.bytes 12 == 0x0800))
-own_kind kinds.Ip4Input g p = own_input p
-own_kind kinds.Ip4Lookup g p =
-    let target = best_route g.routes (destination (datagram p)) in
-    unchecked_by p (not p.checked) (forwarded target (flow_hash Flow p.bytes) p) (own_forwarded target (flow_hash Flow p.bytes) p)
-own_kind kinds.Ip4Rewrite g p = unchecked_by p (not p.checked) (over_adjacency g (adjacency_of g p) p) (own_over g (adjacency_of g p) p)
-own_kind kinds.InterfaceOutput g p = output_by p (unwrap_or (option_map (λ i. i.up) (slice_get g.interfaces (transmit_interface g p))) true)
-own_kind kinds.InterfaceTx g p = tt
-own_kind kinds.Pass g p = tt
-own_kind (kinds.WorkerHandoff hash) g p = tt
-own_kind kinds.ErrorDrop g p = λ e. cc
-own_kind kinds.PgInput g p = λ e. cc
-own_kind kinds.HandoffDequeue g p = λ e. cc
-own_kind kinds.EthernetDual g p = λ e. cc
-own_kind kinds.Ip6Input g p = λ e. cc
-own_kind kinds.Ip6Lookup g p = λ e. cc
-own_kind kinds.Ip6Rewrite g p = λ e. cc
-own_kind (kinds.Dot1qMatch id) g p = λ e. cc
-own_kind (kinds.Dot1qPush id) g p = λ e. cc
-own_kind (kinds.Dot1qRewrite id) g p = λ e. cc
-own_kind (kinds.CrossConnect interface) g p = λ e. cc
-
--- the visits of the IPv4 kinds are such
 pub own_visit : NeverCongests ip4_visit
-own_visit g n p = by_kind (kind_at g n)
-  where
-    by_kind : (o : Option Kind) → IsOwnStep (unwrap_or (option_map (λ kind. visit_of kind g p) o) (dropped errors.Blackhole p)).0
-    by_kind None = λ e. cc
-    by_kind (Some kind) = own_kind kind g p
+own_visit g n p = own_step (ip4_visit g n p).0 (ip4_uncongested g n p)
 
 -- ---- legs
 

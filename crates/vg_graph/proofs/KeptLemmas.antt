@@ -15,6 +15,7 @@ use Rattle.vg_model.proofs.Walks.{AddedArc, with_arc_acyclic, short_acyclic, acy
 use Rattle.vg_model.proofs.Arcs.{arc_set, arc_set_short}
 use Rattle.vg_model.proofs.Journeys.{map_some, then_some}
 use Rattle.vg_model.proofs.LegEnds.{all_at, arc_target, kind_some}
+use Rattle.vg_model.proofs.KindTable.{may_be_target}
 use Rattle.vg_graph.specs.declared.errors.GraphError.{GraphError}
 use Rattle.vg_graph.specs.Refusals.{Answers}
 use Rattle.vg_graph.specs.declared.nodes.Node.{Node as Entry}
@@ -313,28 +314,6 @@ pub arc_edit : (g : Graph) (from slot to : List ℕ) (n s m : ℕ) (node target 
     → place_of (λ slot. slot) slot (slots node.kind) ≡ Some s → node_named g to ≡ Some m → slice_get g.nodes m ≡ Some target
     → is_source target.kind ≡ false → leads g (length g.nodes) m n ≡ false → with_arc g from slot to ≡ Ok (arc_set g n node s m)
 arc_edit g from slot to n s m node target e1 e2 e3 e4 e5 e6 e7 = rw (e1, e2, e3, e4, e5, e6, e7) refl
-
--- a node that is no source may be a target
-pub may_be_target : (kind : Kind) → is_source kind ≡ false → IsTarget (Some kind)
-may_be_target kinds.PgInput e = true≢false e
-may_be_target kinds.HandoffDequeue e = true≢false e
-may_be_target (kinds.WorkerHandoff hash) e = tt
-may_be_target kinds.EthernetInput e = tt
-may_be_target kinds.Ip4Input e = tt
-may_be_target kinds.Ip4Lookup e = tt
-may_be_target kinds.Ip4Rewrite e = tt
-may_be_target kinds.InterfaceOutput e = tt
-may_be_target kinds.InterfaceTx e = tt
-may_be_target kinds.ErrorDrop e = tt
-may_be_target kinds.Pass e = tt
-may_be_target kinds.EthernetDual e = tt
-may_be_target kinds.Ip6Input e = tt
-may_be_target kinds.Ip6Lookup e = tt
-may_be_target kinds.Ip6Rewrite e = tt
-may_be_target (kinds.Dot1qMatch id) e = tt
-may_be_target (kinds.Dot1qPush id) e = tt
-may_be_target (kinds.Dot1qRewrite id) e = tt
-may_be_target (kinds.CrossConnect interface) e = tt
 
 -- an option that is no value
 pub is_none : (o : Option ℕ) → is_some o ≡ false → o ≡ None

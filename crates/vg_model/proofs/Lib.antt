@@ -16,7 +16,7 @@ pub mod Checksums
 pub mod Journeys
 pub mod LegEnds
 pub mod StartValid
+pub mod KindTable
 pub mod KindLaws
-pub mod RoomLemmas
 pub mod Rewrites
 pub mod Arcs

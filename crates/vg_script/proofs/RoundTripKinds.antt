@@ -4,16 +4,16 @@ use Rattle.std.proofs.lemmas.Bool.{and_parts, leb-true, false≢true, ltb-true}
 use Rattle.std.specs.List.{list_all}
 use Rattle.std.specs.Option.{option_or}
 use Rattle.std.specs.Prelude.{decimal, find, option_map, IsSome, is_some, unwrap_or, bytes_eq, if◌then◌else◌}
-use Rattle.vg_model.specs.declared.kinds.HashKind.TheVariants.{Flow, Src, Dst}
 use Rattle.vg_model.specs.declared.kinds.Kind.{Kind}
 use Rattle.vg_model.specs.declared.kinds.Kind.TheVariants as kinds
 use Rattle.vg_model.specs.declared.vlans.VlanId.{VlanId}
 use Rattle.vg_model.specs.KindWord.{NumberedWords, numbered_word, with_vlan, match_words, push_words, rewrite_words, connect_words}
 use Rattle.vg_model.specs.Graph.{kind_entry, plain_kinds}
+use Rattle.vg_model.proofs.KindTable.{IsListed, is_listed}
 use Rattle.vg_script.specs.Classes.{◌>>=◌, number_of, is_word_for, number_in, vlan_of, vlan_behind, numbered_kind, kind_of}
 use Rattle.vg_script.specs.Plain.{kind_text}
-use Rattle.vg_script.proofs.ClassLemmas.{vlan_is}
-use Rattle.vg_script.proofs.RoundTripClasses.{number_is_read, number_is_word}
+use Rattle.vg_script.proofs.ClassLemmas.{vlan_is, name_by_test}
+use Rattle.vg_script.proofs.RoundTripClasses.{name_is_word, number_is_read, number_is_word}
 use Rattle.vg_script.proofs.RoundTripLines.{each-append, each-from_test, is_word_byte, IsWord}
 
 -- kinds with a number
@@ -185,53 +185,28 @@ connect_is_read n =
     (connect_kind (connect_words.text ++ digits) n
     (record { no_plain = no_plain_connect digits; no_match = connect_no_match digits; no_push = connect_no_push digits; no_rewrite = connect_no_rewrite digits }))
 
--- kinds
+-- the word of a kind that the list of kinds without a number has
+listed_is_read : (kind : Kind) → IsListed kind → kind_of (kind_text kind) ≡ Some kind
+listed_is_read kind listed = ap (λ o. option_or o (numbered_kind (kind_text kind))) listed.found
+
+-- kinds; the last line is for each without a number
 pub kind_is_read : (kind : Kind) → IsSome (kind_entry kind).word → kind_of (kind_text kind) ≡ Some kind
-kind_is_read kinds.PgInput h = absurd (false≢true h)
-kind_is_read kinds.HandoffDequeue h = absurd (false≢true h)
-kind_is_read (kinds.WorkerHandoff Flow) h = refl
-kind_is_read (kinds.WorkerHandoff Src) h = refl
-kind_is_read (kinds.WorkerHandoff Dst) h = refl
-kind_is_read kinds.EthernetInput h = refl
-kind_is_read kinds.Ip4Input h = refl
-kind_is_read kinds.Ip4Lookup h = refl
-kind_is_read kinds.Ip4Rewrite h = refl
-kind_is_read kinds.InterfaceOutput h = refl
-kind_is_read kinds.InterfaceTx h = refl
-kind_is_read kinds.ErrorDrop h = absurd (false≢true h)
-kind_is_read kinds.Pass h = refl
-kind_is_read kinds.EthernetDual h = refl
-kind_is_read kinds.Ip6Input h = refl
-kind_is_read kinds.Ip6Lookup h = refl
-kind_is_read kinds.Ip6Rewrite h = refl
 kind_is_read (kinds.Dot1qMatch id) h = match_is_read id h
 kind_is_read (kinds.Dot1qPush id) h = push_is_read id h
 kind_is_read (kinds.Dot1qRewrite id) h = rewrite_is_read id h
 kind_is_read (kinds.CrossConnect interface) h = connect_is_read interface h
+kind_is_read kind h = listed_is_read kind (is_listed kind refl h)
 
 -- a fixed word
 pub literal : (word : List ℕ) → nat_lt 0 (length word) ≡ true → list_all is_word_byte word ≡ true → IsWord word
 literal word some bytes = record { some = ltb-true 0 (length word) some; bytes = each-from_test is_word_byte word bytes }
 
+listed_is_word : (kind : Kind) → IsListed kind → IsWord (kind_text kind)
+listed_is_word kind listed = name_is_word (kind_text kind) (name_by_test (kind_text kind) listed.name)
+
 pub kind_is_word : (kind : Kind) → IsSome (kind_entry kind).word → IsWord (kind_text kind)
-kind_is_word kinds.PgInput h = absurd (false≢true h)
-kind_is_word kinds.HandoffDequeue h = absurd (false≢true h)
-kind_is_word (kinds.WorkerHandoff Flow) h = literal _ refl refl
-kind_is_word (kinds.WorkerHandoff Src) h = literal _ refl refl
-kind_is_word (kinds.WorkerHandoff Dst) h = literal _ refl refl
-kind_is_word kinds.EthernetInput h = literal _ refl refl
-kind_is_word kinds.Ip4Input h = literal _ refl refl
-kind_is_word kinds.Ip4Lookup h = literal _ refl refl
-kind_is_word kinds.Ip4Rewrite h = literal _ refl refl
-kind_is_word kinds.InterfaceOutput h = literal _ refl refl
-kind_is_word kinds.InterfaceTx h = literal _ refl refl
-kind_is_word kinds.ErrorDrop h = absurd (false≢true h)
-kind_is_word kinds.Pass h = literal _ refl refl
-kind_is_word kinds.EthernetDual h = literal _ refl refl
-kind_is_word kinds.Ip6Input h = literal _ refl refl
-kind_is_word kinds.Ip6Lookup h = literal _ refl refl
-kind_is_word kinds.Ip6Rewrite h = literal _ refl refl
 kind_is_word (kinds.Dot1qMatch id) h = numbered_is_word match_words id.number (omega arith) (literal _ refl refl) h
 kind_is_word (kinds.Dot1qPush id) h = numbered_is_word push_words id.number (omega arith) (literal _ refl refl) h
 kind_is_word (kinds.Dot1qRewrite id) h = numbered_is_word rewrite_words id.number (omega arith) (literal _ refl refl) h
 kind_is_word (kinds.CrossConnect interface) h = numbered_is_word connect_words interface (omega arith) (literal _ refl refl) h
+kind_is_word kind h = listed_is_word kind (is_listed kind refl h)

@@ -155,6 +155,16 @@ fn numbered(
     }
 }
 
+/// Asserts that the kind has each of its slots by the slot's name, and no other.
+fn assert_slots(rt: &impl Abort, kind: Kind) {
+    let names = kind.slot_names();
+    assert_eq!(rt; kind.slots() as usize, names.len(), "{kind:?}");
+    for (place, slot) in names.iter().enumerate() {
+        assert_eq!(rt; kind.slot(slot.as_bytes()).map(usize::from), Some(place));
+    }
+    assert_eq!(rt; kind.slot(b"no-slot"), None, "{kind:?}");
+}
+
 /// Asserts that the kind is as its row says.
 fn assert_kind(rt: &impl Abort, row: KindRow) {
     let kind = row.kind;
@@ -162,11 +172,7 @@ fn assert_kind(rt: &impl Abort, row: KindRow) {
     assert_eq!(rt; kind.name(), row.name);
     assert_eq!(rt; kind.word(), word, "{kind:?}");
     assert_eq!(rt; kind.slot_names(), row.slots, "{kind:?}");
-    assert_eq!(rt; kind.slots() as usize, row.slots.len(), "{kind:?}");
-    for (place, slot) in row.slots.iter().enumerate() {
-        assert_eq!(rt; kind.slot(slot.as_bytes()).map(usize::from), Some(place));
-    }
-    assert_eq!(rt; kind.slot(b"no-slot"), None, "{kind:?}");
+    assert_slots(rt, kind);
     assert_eq!(rt; kind.is_source(), row.is_source, "{kind:?}");
 }
 
@@ -281,6 +287,8 @@ fn kinds_without_a_number_are_listed_once(rt: HostRuntime) {
     for (place, kind) in Kind::PLAIN.iter().enumerate() {
         assert_eq!(rt; kind.word(), Some(kind.name()), "{kind:?}");
         assert_eq!(rt; kind.name().number, None, "{kind:?}");
+        assert!(rt; !kind.is_source(), "{kind:?}");
+        assert_slots(&rt, *kind);
         assert_eq!(rt;
             Kind::PLAIN.iter().position(|other| other == kind),
             Some(place)

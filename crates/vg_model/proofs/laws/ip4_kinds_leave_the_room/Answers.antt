@@ -1,4 +1,4 @@
-use Rattle.vg_model.proofs.RoomLemmas.{room_stays}
+use Rattle.vg_model.proofs.KindLaws.{room_stays}
 use Rattle.vg_model.proofs.laws.ip4_kinds_leave_the_room.Goals as goal
 
 pub returns : goal.returns
