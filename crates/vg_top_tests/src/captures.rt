@@ -1,64 +1,14 @@
 //! Captures that are refused, and one of as many packets as may be, over folders and sinks in memory.
 
-use crate::memory_runs::{HEADER, RUN, WIRE, bytes_of, run_over};
+use crate::memory_runs::{HEADER, RUN, WIRE, run_over};
 use std::alloc::{AllocError, Global};
-use std::process::Abort;
-use std::sync::Wait;
 use std::test::Fail;
-use std::thread::Threads;
-
-/// A run over this capture is refused with this line, and saves nothing.
-fn assert_capture<R: Abort + Wait + Threads + Sync + AllocGlobal>(
-    rt: &R,
-    capture: &[u8],
-    line: &str,
-) -> Result<(), Fail> {
-    let ran = run_over(rt, &RUN, capture, WIRE)?;
-    assert_eq!(rt; ran.printed.as_slice(), line.as_bytes());
-    assert_eq!(rt; ran.status, 4, "{line}");
-    assert!(rt; ran.tx.is_none());
-    assert!(rt; ran.ran.is_none());
-    Ok(())
-}
 
 /// A savefile's header, and zero bytes behind it up to a length: a record of no bytes for each 16.
 fn zeros_up_to(alloc: Global, len: usize) -> Result<Vec<u8>, AllocError> {
     let mut file = HEADER.to_vec(alloc)?;
     file.resize(len, 0)?;
     Ok(file)
-}
-
-#[test]
-fn hostile_captures_are_refused(rt: HostRuntime) -> Result<(), Fail> {
-    let alloc = rt.alloc();
-    let hostile = [
-        ("0a0d0d0a", "capture not-pcap 0\n"),
-        ("d4c3b2", "capture truncated 0\n"),
-        (
-            "d4c3b2a1 0200 0300 00000000 00000000 00000400 01000000",
-            "capture version 4\n",
-        ),
-        (
-            "d4c3b2a1 0200 0400 00000000 00000000 00000400 01000010",
-            "capture link-type 20\n",
-        ),
-        (
-            "d4c3b2a1 0200 0400 00000000 00000000 00000400 01000000 \
-                00000000 00000000 ffffffff ffffffff",
-            "capture record-too-long 24\n",
-        ),
-    ];
-    for (text, line) in hostile {
-        assert_capture(&rt, bytes_of(alloc, text)?.as_slice(), line)?;
-    }
-    let too_much = [
-        (1_048_616, "capture too-many-packets 1048600\n"),
-        (16_777_217, "capture too-large 16777216\n"),
-    ];
-    for (len, line) in too_much {
-        assert_capture(&rt, zeros_up_to(alloc, len)?.as_slice(), line)?;
-    }
-    Ok(())
 }
 
 #[test]

@@ -1,6 +1,6 @@
 //! Runs that hold frames back, over folders and sinks in memory.
 
-use crate::memory_runs::{FRAME, Frame, RUN, WIRE, run_over, run_with, savefile};
+use crate::memory_runs::{RUN, run_over, run_with, savefile};
 use crate::workers::{HAND, TO_1, assert_ran, crossing, report, rounds};
 use std::test::Fail;
 
@@ -32,19 +32,6 @@ fn a_frame_that_finds_its_queue_full_is_held_back(rt: HostRuntime) -> Result<(),
     let alone = run_over(&rt, &RUN, capture.as_slice(), HAND)?;
     let tx = alone.tx.ok_or("no savefile")?;
     assert_ran(&rt, ran, report.as_str(), tx.as_slice(), 1)
-}
-
-#[test]
-fn one_worker_has_nothing_to_hold(rt: HostRuntime) -> Result<(), Fail> {
-    let frames: [Frame<'_>; 2] = [FRAME, (FRAME.0, 13)];
-    let capture = savefile(rt.alloc(), &frames)?;
-    let plain = run_over(&rt, &RUN, capture.as_slice(), WIRE)?;
-    let words = ["run", "--hold", "c", "s", "t"];
-    let held = run_over(&rt, &words, capture.as_slice(), WIRE)?;
-    assert_eq!(rt; held.status, 0);
-    assert_eq!(rt; held.printed, plain.printed);
-    assert_eq!(rt; held.tx, plain.tx);
-    Ok(())
 }
 
 #[test]

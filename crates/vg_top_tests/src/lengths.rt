@@ -1,8 +1,7 @@
 //! Packets of all lengths, over one buffer to five: on one worker and on several, behind a handoff, where queues are full, and where the pool
 //! is empty.
 
-use crate::memory_runs::{HEADER, assert_accepted, bytes_of, run_with};
-use crate::neighbors::run_in;
+use crate::memory_runs::{HEADER, Ran, assert_accepted, bytes_of, run_with};
 use crate::walked::checksum;
 use crate::workers::{HAND, TO_1, assert_ran, report};
 use std::alloc::{AllocError, Global};
@@ -176,6 +175,22 @@ fn lengths_report(alloc: Global, workers: u32, is_handed: bool) -> Result<String
 
 /// The ways of a run in threads: where a frame is dropped if its queue is full, and where it is held back.
 const IN_THREADS: [&[&str]; 2] = [&[], &["--queue=1", "--burst=1", "--hold"]];
+
+/// A run of so many workers in one of the ways, with these turns where it is by turns.
+fn run_in<'a, R: Wait + Threads + Sync + AllocGlobal>(
+    rt: &R,
+    workers: &'static str,
+    way: &[&'static str],
+    capture: &'a [u8],
+    script: &'a [u8],
+    turns: &'a [u8],
+) -> Result<Ran, AllocError> {
+    let mut words = vec![in rt.alloc(); "run", "--workers", workers]?;
+    words.extend_from_slice(way)?;
+    words.extend_from_slice(&["c", "s", "t"])?;
+    let files: [(&str, &[u8]); 3] = [("c", capture), ("s", script), ("u", turns)];
+    run_with(rt, words.as_slice(), &files)
+}
 
 /// On one worker to eight, in both ways, the packets have these ends, and a check of what each run saved and printed says yes.
 fn assert_lengths<R: Abort + Wait + Threads + Sync + AllocGlobal>(

@@ -1,8 +1,11 @@
 //! Tests of the top call, over folders and sinks in memory. They stand in a crate of tests alone, since a crate that has tests is proved
 //! twice.
 //!
+//! What a call prints and saves, and no more, is a row of `vg_rows`: here are calls with gates, faults and the end of a run, orders of threads, and
+//! bytes made by loops.
+//!
 //! In which order to read: `memory_runs`, `runs`, `refusals`, `captures`, `workers`, `holds`, `walked`, `loads`, `checks`; then
-//! `neighbors`, `lengths`, `other_kinds`, `dual_stack`, `vlans`.
+//! `lengths`, `dual_stack`, `vlans`.
 #![tactic(auto)]
 
 #[cfg(test)]
@@ -19,10 +22,6 @@ mod lengths;
 mod loads;
 #[cfg(test)]
 mod memory_runs;
-#[cfg(test)]
-mod neighbors;
-#[cfg(test)]
-mod other_kinds;
 #[cfg(test)]
 mod refusals;
 #[cfg(test)]

@@ -28,10 +28,6 @@ pub(crate) const FRAME: Frame<'static> = (
 /// The script that sends each IPv4 frame straight to the interface.
 pub(crate) const WIRE: &[u8] = b"arc ethernet-input ip4 interface-tx\n";
 
-/// The script with one neighbor, to which all goes.
-pub(crate) const EAST: &[u8] =
-    b"adjacency east interface pg0 dst 02:00:00:00:00:09\nroute 0.0.0.0/0 via east\n";
-
 /// The bytes of a text in hexadecimal digits; all else in it says nothing.
 pub(crate) fn bytes_of(alloc: Global, text: &str) -> Result<Vec<u8>, AllocError> {
     let mut bytes = Vec::new(alloc);
@@ -71,15 +67,10 @@ pub(crate) fn savefile(alloc: Global, frames: &[Frame<'_>]) -> Result<Vec<u8>, A
 /// The savefile of a frame, once for each of these times in microseconds, all below a second.
 pub(crate) fn savefile_at(
     alloc: Global,
-    nanos: bool,
     frame: Frame<'_>,
     times: &[u32],
 ) -> Result<Vec<u8>, AllocError> {
     let mut file = HEADER.to_vec(alloc)?;
-    if nanos {
-        file[0] = 0x4d;
-        file[1] = 0x3c;
-    }
     let (text, len) = frame;
     let bytes = bytes_of(alloc, text)?;
     for time in times {
@@ -178,31 +169,6 @@ pub(crate) fn assert_accepted<R: Abort + Wait + Threads + Sync + AllocGlobal>(
     assert_eq!(rt; checked.printed.as_slice(), "yes\n".as_bytes());
     assert_eq!(rt; checked.status, 0);
     Ok(())
-}
-
-/// A run of this capture over this script saves this and prints that, and a check of both says yes.
-pub(crate) fn assert_saved<R: Abort + Wait + Threads + Sync + AllocGlobal>(
-    rt: &R,
-    capture: &[u8],
-    script: &[u8],
-    saved: &[u8],
-    printed: &str,
-) -> Result<(), Fail> {
-    let ran = run_over(rt, &RUN, capture, script)?;
-    assert_accepted(rt, ran, capture, script, saved, printed)
-}
-
-/// A run of these frames over this script saves those and prints this, and a check of both says yes.
-pub(crate) fn assert_done<R: Abort + Wait + Threads + Sync + AllocGlobal>(
-    rt: &R,
-    script: &[u8],
-    frames: &[Frame<'_>],
-    sent: &[Frame<'_>],
-    printed: &str,
-) -> Result<(), Fail> {
-    let capture = savefile(rt.alloc(), frames)?;
-    let saved = savefile(rt.alloc(), sent)?;
-    assert_saved(rt, capture.as_slice(), script, saved.as_slice(), printed)
 }
 
 /// So many workers.

@@ -126,7 +126,7 @@ const LATE_REPORT: &str = "vgd report 1\nworkers 2\nbuffers 4096\ngenerations 2\
 #[test]
 fn a_packet_meets_the_generation_of_the_worker_that_takes_it(rt: HostRuntime) -> Result<(), Fail> {
     let alloc = rt.alloc();
-    let capture = savefile_at(alloc, false, TO_1, &[0, 1000])?;
+    let capture = savefile_at(alloc, TO_1, &[0, 1000])?;
     let files: [(&str, &[u8]); 3] = [
         ("c", capture.as_slice()),
         ("s", HAND_UP_TO_1000),
@@ -321,47 +321,6 @@ fn a_queue_of_two_slots_refuses_a_third_frame(rt: HostRuntime) -> Result<(), Fai
     assert_ran(&rt, ran, report.as_str(), tx.as_slice(), 1)
 }
 
-/// A run with this turns file is refused with this status and this line.
-fn assert_turns<R: Abort + Wait + Threads + Sync + AllocGlobal>(
-    rt: &R,
-    files: &[(&str, &[u8])],
-    status: u8,
-    line: &str,
-) -> Result<(), Fail> {
-    let ran = run_with(rt, &BY_TURNS, files)?;
-    assert_eq!(rt; ran.printed.as_slice(), line.as_bytes());
-    assert_eq!(rt; ran.status, status, "{line}");
-    assert!(rt; ran.tx.is_none());
-    assert!(rt; ran.ran.is_none());
-    Ok(())
-}
-
-#[test]
-fn a_faulty_turns_file_is_told_last(rt: HostRuntime) -> Result<(), Fail> {
-    let c: (&str, &[u8]) = ("c", &HEADER);
-    let s: (&str, &[u8]) = ("s", HAND);
-    let u: (&str, &[u8]) = ("u", b"01m2");
-    assert_turns(&rt, &[c, s, u], 8, "turns 3\n")?;
-    assert_turns(&rt, &[c, s], 3, "load u\n")?;
-    assert_turns(&rt, &[c, u], 3, "load s\n")?;
-    assert_turns(&rt, &[c, ("s", b"arc hub"), u], 5, "script 1 word\n")?;
-    assert_turns(
-        &rt,
-        &[c, ("s", b"unroute 10.0.0.0/8"), u],
-        5,
-        "script 1 no-route\n",
-    )?;
-    assert_turns(&rt, &[("c", b"none"), s, u], 4, "capture not-pcap 0\n")?;
-
-    // Two workers with the fewest buffers, and a turns file of white space alone, are accepted.
-    let words = ["run", "--workers=2", "--buffers", "768", "c", "s", "t"];
-    let ran = run_with(&rt, &words, &[c, s])?;
-    assert_eq!(rt; ran.status, 0);
-    let ran = run_with(&rt, &BY_TURNS, &[c, s, ("u", b" \t\r\n")])?;
-    assert_eq!(rt; ran.status, 0);
-    Ok(())
-}
-
 /// A run by turns over a folder whose call of this number fails, and a sink that takes so many bytes a call and whose call of this
 /// number fails, has this status, has printed this text, and has saved the file or not.
 fn assert_faults<R: Abort + Wait + Threads + Sync + AllocGlobal>(
@@ -378,7 +337,7 @@ fn assert_faults<R: Abort + Wait + Threads + Sync + AllocGlobal>(
     if let Some(call) = failing_file {
         faults.push(call)?;
     }
-    let capture = savefile_at(alloc, false, TO_1, &[0, 1000])?;
+    let capture = savefile_at(alloc, TO_1, &[0, 1000])?;
     let mut folder = MemoryFolder::new(alloc, faults);
     folder.add("c", capture.as_slice())?;
     folder.add("s", HAND_UP_TO_1000)?;

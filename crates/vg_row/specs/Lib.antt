@@ -1,0 +1,5 @@
+pub mod Builds
+pub mod Hex
+pub mod Holds
+pub mod Names
+pub mod Records

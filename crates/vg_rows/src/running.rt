@@ -1,0 +1,137 @@
+//! The calls of rows.
+ghost use Rattle.std.specs.Prelude.{◌≡◌, IfOk, if◌then◌else◌, length};
+ghost use Rattle.std.specs.List.{list_all};
+ghost use Rattle.vg_row.specs.Holds.{has_held};
+ghost use Rattle.vg_row.specs.Names.{names_of, names_said};
+ghost use Rattle.vg_rows.specs.Run.{judged_names, IsJudged};
+
+use crate::sentences::sentence_of;
+use std::alloc::{AllocError, Global};
+use std::sync::Wait;
+use std::thread::Threads;
+use vg_outside::{OpenGate, SureFolder, SureSink};
+use vg_row::{
+    Call, Cause, Fault, Judged, Kept, Outcome, Row, check_of, first_miss, read_rows, status_of,
+};
+use vg_top::{Done, vgd_run};
+
+/// What a call of the program with these words comes to, over a folder of these files.
+fn called<R: Wait + Threads + Sync>(
+    rt: &R,
+    alloc: Global,
+    words: &[String],
+    files: &[Kept],
+) -> Result<Outcome, AllocError> {
+    let mut folder = SureFolder::new(alloc);
+    for file in files {
+        folder.add(file.name.as_str(), file.bytes.as_slice())?;
+    }
+    let words = words
+        .iter()
+        .map(|word| word.as_str())
+        .collect::<Vec<&str>>(alloc)?;
+    let mut out = SureSink::new(alloc);
+    let Done { status, ran: _ } = vgd_run(
+        rt,
+        alloc,
+        words.as_slice(),
+        &mut folder,
+        &mut out,
+        &OpenGate,
+    );
+    Ok(Outcome {
+        status,
+        printed: out.written,
+        saved: match folder.file("t") {
+            Some(bytes) => Some(bytes.to_vec(alloc)?),
+            None => None,
+        },
+    })
+}
+
+/// What the calls of a row come to, in their order.
+fn outcomes_of<R: Wait + Threads + Sync>(
+    rt: &R,
+    alloc: Global,
+    row: &Row,
+) -> Result<Vec<Outcome>, AllocError>
+    ensures { IfOk result (λ outcomes. length outcomes.items ≡ length row.now.calls.items) }
+{
+    let mut outcomes = Vec::new(alloc);
+    for call in row.calls.as_slice() {
+        let outcome = match call {
+            Call::Program(words) => called(rt, alloc, words.as_slice(), row.files.as_slice())?,
+            Call::Sentence(words) => Outcome {
+                status: 0,
+                printed: sentence_of(alloc, words.as_slice(), row.files.as_slice())?,
+                saved: None,
+            },
+        };
+        outcomes.push(outcome)?;
+    }
+    Ok(outcomes)
+}
+
+/// Whether a row holds, and where it doesn't.
+fn run_row<R: Wait + Threads + Sync>(rt: &R, alloc: Global, row: &Row) -> Result<Judged, AllocError>
+    ensures { IfOk result (IsJudged row.now) }
+{
+    let miss = first_miss(row, outcomes_of(rt, alloc, row)?.as_slice());
+    let check_miss = match check_of(alloc, row)? {
+        Some(check) => first_miss(&check, outcomes_of(rt, alloc, &check)?.as_slice()),
+        None => None,
+    };
+    Ok(Judged {
+        name: row.name.clone()?,
+        miss,
+        check_miss,
+    })
+}
+
+/// Whether each of these rows holds, in their order.
+fn run_rows<R: Wait + Threads + Sync>(
+    rt: &R,
+    alloc: Global,
+    rows: &[Row],
+) -> Result<Vec<Judged>, AllocError>
+    ensures { IfOk result (λ judged. judged_names judged.items ≡ names_of rows.now) }
+{
+    let mut judged = Vec::new(alloc);
+    for row in rows {
+        judged.push(run_row(rt, alloc, row)?)?;
+    }
+    Ok(judged)
+}
+
+/// What came of the rows of a text.
+#[derive(Drop)]
+pub(crate) struct Ran {
+    /// Each row, in their order.
+    pub(crate) judged: Vec<Judged>,
+    /// The exit status: 0 exactly where every row holds.
+    pub(crate) status: u8,
+}
+
+/// Runs the rows that the lines of a text say: each line `row NAME` makes one.
+///
+/// # Errors
+///
+/// The number of the line that is refused, and why; 0 where memory ran out in a run.
+pub(crate) fn run_lines<R: Wait + Threads + Sync>(
+    rt: &R,
+    alloc: Global,
+    lines: &[&str],
+) -> Result<Ran, Fault>
+    ensures names { IfOk result (λ ran. judged_names ran.judged.items ≡ names_said lines.now) }
+    ensures status { IfOk result (λ ran. ran.status ≡ (if list_all has_held ran.judged.items then 0 else 1)) }
+{
+    let rows = read_rows(alloc, lines)?;
+    let Ok(judged) = run_rows(rt, alloc, rows.as_slice()) else {
+        return Err(Fault {
+            line: 0,
+            cause: Cause::Memory,
+        });
+    };
+    let status = status_of(judged.as_slice());
+    Ok(Ran { judged, status })
+}
