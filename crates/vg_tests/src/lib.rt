@@ -2,13 +2,11 @@
 //! crate of tests alone, since a crate that has tests is proved twice.
 //!
 //! In which order to read: `model`, `capture`, `savefile`, `load`, `graph`, `fib`, `fib6`, `plan`, `plan_routes`, `process`, `packet`,
-//! `fates`, `report`, `draw`.
+//! `fates`, `report`.
 #![tactic(auto)]
 
 #[cfg(test)]
 mod capture;
-#[cfg(test)]
-mod draw;
 #[cfg(test)]
 mod fates;
 #[cfg(test)]

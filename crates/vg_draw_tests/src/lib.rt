@@ -1,0 +1,5 @@
+//! Tests of drawings, over the built libraries. They stand in a crate of tests alone, since a crate that has tests is proved twice.
+#![tactic(auto)]
+
+#[cfg(test)]
+mod draw;
