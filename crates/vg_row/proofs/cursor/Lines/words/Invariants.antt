@@ -5,7 +5,7 @@ use Rattle.vg_row.proofs.cursor.Lines.words.Given as goal
 
 -- what was taken ahead says nothing
 abbrev pub invariant-loop-said : goal.invariant-loop-said
-invariant-loop-said l = Goes l.self l.ahead
+invariant-loop-said l = (l.self ≡ l.fn.self) × Goes l.fn.self l.ahead
 
 abbrev pub decreases-loop-said : goal.decreases-loop-said
 decreases-loop-said l = length l.ahead.rest.now
