@@ -2,7 +2,6 @@
 
 use std::alloc::{AllocError, Global};
 use std::process::Abort;
-use std::test::Fail;
 use vg_capture::{Capture, read_capture};
 use vg_model::{Bytes, DropError, Leg};
 use vg_nodes::Ip4Kinds;
@@ -98,11 +97,11 @@ end
 ";
 
 /// Two packets, at 0 and at 1,000 microseconds.
-fn capture(alloc: Global) -> Result<Capture, Fail> {
-    let mut file = HEADER.to_vec(alloc)?;
-    add(&mut file, 0)?;
-    add(&mut file, 1000)?;
-    Ok(read_capture(alloc, Bytes::from_vec(file))?)
+fn capture(rt: &impl Abort, alloc: Global) -> Capture {
+    let mut file = HEADER.to_vec(alloc).expect(rt, "memory");
+    add(&mut file, 0).expect(rt, "memory");
+    add(&mut file, 1000).expect(rt, "memory");
+    read_capture(alloc, Bytes::from_vec(file)).expect(rt, "a capture")
 }
 
 /// Adds the record of a frame at so many microseconds.
@@ -114,15 +113,11 @@ fn add(file: &mut Vec<u8>, micros: u16) -> Result<(), AllocError> {
 }
 
 /// What comes of both packets under the choices that a report names.
-fn replayed(
-    rt: &impl Abort,
-    alloc: Global,
-    report: &str,
-) -> Result<Result<Replayed, ReplayError>, Fail> {
-    let capture = capture(alloc)?;
-    let script = parse_script(alloc, TURN.as_bytes())?;
-    let plan = Plan::new(alloc, script)?;
-    let report: Report = read_report(alloc, report.as_bytes())?;
+fn replayed(rt: &impl Abort, alloc: Global, report: &str) -> Result<Replayed, ReplayError> {
+    let capture = capture(rt, alloc);
+    let script = parse_script(alloc, TURN.as_bytes()).expect(rt, "a script");
+    let plan = Plan::new(alloc, script).expect(rt, "a plan");
+    let report: Report = read_report(alloc, report.as_bytes()).expect(rt, "a report");
     assert!(rt; report.workers == 2);
     assert!(rt; report.packets.len() == capture.count() as usize);
     let input = Input {
@@ -132,7 +127,7 @@ fn replayed(
         lines: &report.packets,
         traced: 1,
     };
-    Ok(replay(alloc, &input, &Ip4Kinds))
+    replay(alloc, &input, &Ip4Kinds)
 }
 
 /// The packet with this number was dropped by this node with this error.
@@ -145,20 +140,19 @@ fn assert_dropped(rt: &impl Abort, done: &Replayed, number: usize, node: u16, er
 }
 
 #[test]
-fn a_packet_meets_another_generation_on_its_second_worker(rt: HostRuntime) -> Result<(), Fail> {
-    let done = replayed(&rt, rt.alloc(), TURNED)?.map_err(|_| "no journeys")?;
+fn a_packet_meets_another_generation_on_its_second_worker(rt: HostRuntime) {
+    let done = replayed(&rt, rt.alloc(), TURNED).expect(&rt, "journeys");
     assert_dropped(&rt, &done, 0, 8, DropError::Blackhole);
     assert_dropped(&rt, &done, 1, 8, DropError::Blackhole);
     assert!(rt; done.trips.len() > 0);
     let first = done.trips.get(0);
     assert!(rt; first.visits() == [0, 9, 1, 2, 8].as_slice());
     assert!(rt; first.legs().len() == 2);
-    Ok(())
 }
 
 #[test]
-fn a_packet_is_sent_by_its_second_worker(rt: HostRuntime) -> Result<(), Fail> {
-    let done = replayed(&rt, rt.alloc(), SENT)?.map_err(|_| "no journeys")?;
+fn a_packet_is_sent_by_its_second_worker(rt: HostRuntime) {
+    let done = replayed(&rt, rt.alloc(), SENT).expect(&rt, "journeys");
     assert!(rt; done.trips.len() > 0);
     let first = done.trips.get(0);
     assert_eq!(rt; first.outcome(), Outcome::Sent { interface: 0 });
@@ -179,32 +173,28 @@ fn a_packet_is_sent_by_its_second_worker(rt: HostRuntime) -> Result<(), Fail> {
             ]
             .as_slice()
     );
-    Ok(())
 }
 
 #[test]
-fn a_packet_begins_in_the_generation_of_its_time(rt: HostRuntime) -> Result<(), Fail> {
-    match replayed(&rt, rt.alloc(), EARLY)? {
+fn a_packet_begins_in_the_generation_of_its_time(rt: HostRuntime) {
+    match replayed(&rt, rt.alloc(), EARLY) {
         Ok(_) => assert!(rt; false),
         Err(error) => assert_eq!(rt; error, ReplayError::Choices(1)),
     }
-    Ok(())
 }
 
 #[test]
-fn a_full_queue_ends_a_journey(rt: HostRuntime) -> Result<(), Fail> {
-    let done = replayed(&rt, rt.alloc(), FULL)?.map_err(|_| "no journeys")?;
+fn a_full_queue_ends_a_journey(rt: HostRuntime) {
+    let done = replayed(&rt, rt.alloc(), FULL).expect(&rt, "journeys");
     assert!(rt; done.trips.len() > 0);
     let first = done.trips.get(0);
     assert_eq!(rt; first.outcome(), Outcome::Handed { node: 9, worker: 1 });
-    Ok(())
 }
 
 #[test]
-fn a_packet_without_a_journey_is_named(rt: HostRuntime) -> Result<(), Fail> {
-    match replayed(&rt, rt.alloc(), TORN)? {
+fn a_packet_without_a_journey_is_named(rt: HostRuntime) {
+    match replayed(&rt, rt.alloc(), TORN) {
         Ok(_) => assert!(rt; false),
         Err(error) => assert_eq!(rt; error, ReplayError::Choices(0)),
     }
-    Ok(())
 }
