@@ -1,5 +1,5 @@
 //! Calls of the comparison over folders in memory. Frames and savefiles are written out by hand.
-use std::test::Fail;
+use std::process::Abort;
 use vg_diff::diff_run;
 use vg_outside::{SureFolder, SureSink};
 
@@ -85,218 +85,216 @@ end
 ";
 
 /// Adds a record at so many seconds.
-fn put_record(file: &mut Vec<u8>, seconds: u8, frame: &[u8]) -> Result<(), Fail> {
+fn put_record(rt: &impl Abort, file: &mut Vec<u8>, seconds: u8, frame: &[u8]) {
     let len = frame.len().min(255) as u8;
-    file.extend_from_slice(&[seconds, 0, 0, 0, 0, 0, 0, 0, len, 0, 0, 0, len, 0, 0, 0])?;
-    file.extend_from_slice(frame)?;
-    Ok(())
+    file.extend_from_slice(&[seconds, 0, 0, 0, 0, 0, 0, 0, len, 0, 0, 0, len, 0, 0, 0])
+        .expect(rt, "memory");
+    file.extend_from_slice(frame).expect(rt, "memory");
 }
 
 /// A savefile of these frames.
-fn savefile<R: AllocGlobal>(rt: &R, frames: &[&[u8]]) -> Result<Vec<u8>, Fail> {
-    let mut file = HEADER.to_vec(rt.alloc())?;
+fn savefile<R: Abort + AllocGlobal>(rt: &R, frames: &[&[u8]]) -> Vec<u8> {
+    let mut file = HEADER.to_vec(rt.alloc()).expect(rt, "memory");
     let mut seconds = 0u8;
     for frame in frames {
-        put_record(&mut file, seconds, frame)?;
+        put_record(rt, &mut file, seconds, frame);
         seconds = seconds.wrapping_add(1);
     }
-    Ok(file)
+    file
 }
 
 /// A frame with another byte at a place.
-fn changed<R: AllocGlobal>(rt: &R, frame: &[u8], place: usize, byte: u8) -> Result<Vec<u8>, Fail> {
-    let mut frame = frame.to_vec(rt.alloc())?;
+fn changed<R: Abort + AllocGlobal>(rt: &R, frame: &[u8], place: usize, byte: u8) -> Vec<u8> {
+    let mut frame = frame.to_vec(rt.alloc()).expect(rt, "memory");
     if place < frame.len() {
         frame[place] = byte;
     }
-    Ok(frame)
+    frame
 }
 
 /// A frame padded to 60 bytes.
-fn padded<R: AllocGlobal>(rt: &R, frame: &[u8]) -> Result<Vec<u8>, Fail> {
-    let mut frame = frame.to_vec(rt.alloc())?;
+fn padded<R: Abort + AllocGlobal>(rt: &R, frame: &[u8]) -> Vec<u8> {
+    let mut frame = frame.to_vec(rt.alloc()).expect(rt, "memory");
     for more in 0..60 {
         if frame.len() < 60 {
-            frame.push(7)?;
+            frame.push(7).expect(rt, "memory");
         }
     }
-    Ok(frame)
+    frame
 }
 
 /// The status and the printed text, where these frames had to come and those did, in one savefile.
-fn compare_with<R: AllocGlobal>(
+fn compare_with<R: Abort + AllocGlobal>(
     rt: &R,
     options: &[&str],
     wanted: &[&[u8]],
     frames: &[&[u8]],
-) -> Result<(u8, Vec<u8>), Fail> {
+) -> (u8, Vec<u8>) {
     let alloc = rt.alloc();
     let mut folder = SureFolder::new(alloc);
-    folder.add("c", savefile(rt, &[&FIRST, &ASTRAY, &SECOND])?.as_slice())?;
-    folder.add("t", savefile(rt, wanted)?.as_slice())?;
-    folder.add("r", REPORT)?;
-    folder.add("o", savefile(rt, frames)?.as_slice())?;
-    let mut words = options.to_vec(alloc)?;
-    words.extend_from_slice(&["t", "r", "o"])?;
+    folder
+        .add("c", savefile(rt, &[&FIRST, &ASTRAY, &SECOND]).as_slice())
+        .expect(rt, "memory");
+    folder
+        .add("t", savefile(rt, wanted).as_slice())
+        .expect(rt, "memory");
+    folder.add("r", REPORT).expect(rt, "memory");
+    folder
+        .add("o", savefile(rt, frames).as_slice())
+        .expect(rt, "memory");
+    let mut words = options.to_vec(alloc).expect(rt, "memory");
+    words
+        .extend_from_slice(&["t", "r", "o"])
+        .expect(rt, "memory");
     let mut out = SureSink::new(alloc);
     let status = diff_run(alloc, words.as_slice(), &mut folder, &mut out);
-    Ok((status, out.written().to_vec(alloc)?))
+    (status, out.written().to_vec(alloc).expect(rt, "memory"))
 }
 
 /// The same where FIRST and SECOND had to come.
-fn compare<R: AllocGlobal>(
-    rt: &R,
-    options: &[&str],
-    frames: &[&[u8]],
-) -> Result<(u8, Vec<u8>), Fail> {
+fn compare<R: Abort + AllocGlobal>(rt: &R, options: &[&str], frames: &[&[u8]]) -> (u8, Vec<u8>) {
     compare_with(rt, options, &[&FIRST, &SECOND], frames)
 }
 
 #[test]
-fn equal_sets_match_in_any_order(rt: HostRuntime) -> Result<(), Fail> {
-    let (status, text) = compare(&rt, &[], &[&FIRST, &SECOND])?;
+fn equal_sets_match_in_any_order(rt: HostRuntime) {
+    let (status, text) = compare(&rt, &[], &[&FIRST, &SECOND]);
     assert_eq!(rt; status, 0);
     assert!(rt; text.as_slice() == b"same 2\nreordered 0\nnoise 0 0\nend\n".as_slice());
-    let (status, text) = compare(&rt, &[], &[&SECOND, &FIRST])?;
+    let (status, text) = compare(&rt, &[], &[&SECOND, &FIRST]);
     assert_eq!(rt; status, 0);
     assert!(rt; text.as_slice() == b"same 2\nreordered 1\nnoise 0 0\nend\n".as_slice());
-    Ok(())
 }
 
 #[test]
-fn padding_and_noise_do_not_count(rt: HostRuntime) -> Result<(), Fail> {
-    let first = padded(&rt, &FIRST)?;
-    let (status, text) = compare(&rt, &[], &[&ARP, first.as_slice(), &SECOND])?;
+fn padding_and_noise_do_not_count(rt: HostRuntime) {
+    let first = padded(&rt, &FIRST);
+    let (status, text) = compare(&rt, &[], &[&ARP, first.as_slice(), &SECOND]);
     assert_eq!(rt; status, 0);
     assert!(rt; text.as_slice() == b"same 2\nreordered 0\nnoise 0 1\nend\n".as_slice());
-    Ok(())
 }
 
 #[test]
-fn a_ttl_that_was_not_lowered_is_found(rt: HostRuntime) -> Result<(), Fail> {
-    let other = changed(&rt, &SECOND, 22, 64)?;
-    let (status, text) = compare(&rt, &[], &[&FIRST, other.as_slice()])?;
+fn a_ttl_that_was_not_lowered_is_found(rt: HostRuntime) {
+    let other = changed(&rt, &SECOND, 22, 64);
+    let (status, text) = compare(&rt, &[], &[&FIRST, other.as_slice()]);
     assert_eq!(rt; status, 9);
     assert!(rt;
         text.as_slice() == b"same 1\nchanged 2 ttl 3f 40\nreordered 0\nnoise 0 0\nend\n".as_slice()
     );
-    let (status, text) = compare(&rt, &["--brief"], &[&FIRST, other.as_slice()])?;
+    let (status, text) = compare(&rt, &["--brief"], &[&FIRST, other.as_slice()]);
     assert_eq!(rt; status, 9);
     assert!(rt;
         text.as_slice()
             == b"same 1\nmissing 0\nchanged 1\nextra 0\ndropped-but-there 0\nreordered 0\nnoise 0 0\nend\n".as_slice()
     );
-    Ok(())
 }
 
 #[test]
-fn classes_have_an_example_each(rt: HostRuntime) -> Result<(), Fail> {
-    let other = changed(&rt, &SECOND, 22, 64)?;
-    let (status, text) = compare(&rt, &["--classes"], &[other.as_slice(), &ASTRAY])?;
+fn classes_have_an_example_each(rt: HostRuntime) {
+    let other = changed(&rt, &SECOND, 22, 64);
+    let (status, text) = compare(&rt, &["--classes"], &[other.as_slice(), &ASTRAY]);
     assert_eq!(rt; status, 9);
     assert!(rt;
         text.as_slice()
             == b"same 0\nclass missing 1 0:1\nclass changed ttl 1 0:1\nclass extra 1 0:2\nreordered 0\nnoise 0 0\nend\n".as_slice()
     );
-    Ok(())
 }
 
 #[test]
-fn a_field_may_be_ignored(rt: HostRuntime) -> Result<(), Fail> {
-    let other = changed(&rt, &SECOND, 22, 64)?;
-    let (status, _) = compare(&rt, &["--ignore", "ttl"], &[&FIRST, other.as_slice()])?;
+fn a_field_may_be_ignored(rt: HostRuntime) {
+    let other = changed(&rt, &SECOND, 22, 64);
+    let (status, _) = compare(&rt, &["--ignore", "ttl"], &[&FIRST, other.as_slice()]);
     assert_eq!(rt; status, 0);
-    let (status, _) = compare(&rt, &["--ignore", "checksum"], &[&FIRST, other.as_slice()])?;
+    let (status, _) = compare(&rt, &["--ignore", "checksum"], &[&FIRST, other.as_slice()]);
     assert_eq!(rt; status, 9);
-    Ok(())
 }
 
 #[test]
-fn fields_of_ip6_and_of_a_tag_are_named(rt: HostRuntime) -> Result<(), Fail> {
-    let six = changed(&rt, &SIX, 21, 64)?;
-    let tagged = changed(&rt, &TAGGED, 15, 11)?;
+fn fields_of_ip6_and_of_a_tag_are_named(rt: HostRuntime) {
+    let six = changed(&rt, &SIX, 21, 64);
+    let tagged = changed(&rt, &TAGGED, 15, 11);
     let (status, text) = compare_with(
         &rt,
         &[],
         &[&SIX, &TAGGED],
         &[&SOLICITATION, six.as_slice(), tagged.as_slice()],
-    )?;
+    );
     assert_eq!(rt; status, 9);
     assert!(rt;
         text.as_slice()
             == b"same 0\nchanged 0 ttl 3f 40\nchanged 2 vlan 000a 000b\nreordered 0\nnoise 0 1\nend\n".as_slice()
     );
-    Ok(())
 }
 
 #[test]
-fn the_comparison_may_be_limited_to_prefixes(rt: HostRuntime) -> Result<(), Fail> {
+fn the_comparison_may_be_limited_to_prefixes(rt: HostRuntime) {
     let only = ["--only", "2001:db8::2/128"];
-    let (status, text) = compare_with(&rt, &only, &[&SIX, &FIRST], &[&SIX])?;
+    let (status, text) = compare_with(&rt, &only, &[&SIX, &FIRST], &[&SIX]);
     assert_eq!(rt; status, 0);
     assert!(rt; text.as_slice() == b"same 1\nreordered 0\nnoise 1 0\nend\n".as_slice());
     let only = ["--only", "10.0.0.1/32"];
-    let (status, text) = compare_with(&rt, &only, &[&SIX, &FIRST], &[&SIX])?;
+    let (status, text) = compare_with(&rt, &only, &[&SIX, &FIRST], &[&SIX]);
     assert_eq!(rt; status, 9);
     assert!(rt; text.as_slice() == b"same 0\nmissing 2\nreordered 0\nnoise 1 1\nend\n".as_slice());
-    let (status, _) = compare_with(&rt, &["--only", "10.0.0.1"], &[&FIRST, &SECOND], &[&FIRST])?;
+    let (status, _) = compare_with(&rt, &["--only", "10.0.0.1"], &[&FIRST, &SECOND], &[&FIRST]);
     assert_eq!(rt; status, 2);
-    Ok(())
 }
 
 #[test]
-fn a_checksum_alone_is_found(rt: HostRuntime) -> Result<(), Fail> {
-    let other = changed(&rt, &FIRST, 24, 0)?;
-    let (status, text) = compare(&rt, &[], &[&SECOND, other.as_slice()])?;
+fn a_checksum_alone_is_found(rt: HostRuntime) {
+    let other = changed(&rt, &FIRST, 24, 0);
+    let (status, text) = compare(&rt, &[], &[&SECOND, other.as_slice()]);
     assert_eq!(rt; status, 9);
     assert!(rt;
         text.as_slice()
             == b"same 1\nchanged 0 checksum 67cb 00cb\nreordered 0\nnoise 0 0\nend\n".as_slice()
     );
-    Ok(())
 }
 
 #[test]
-fn one_twice_is_extra_and_one_missing_is_missing(rt: HostRuntime) -> Result<(), Fail> {
-    let (status, text) = compare(&rt, &[], &[&FIRST, &SECOND, &FIRST])?;
+fn one_twice_is_extra_and_one_missing_is_missing(rt: HostRuntime) {
+    let (status, text) = compare(&rt, &[], &[&FIRST, &SECOND, &FIRST]);
     assert_eq!(rt; status, 9);
     assert!(rt;
         text.as_slice() == b"same 2\nextra 2 0:3\nreordered 0\nnoise 0 0\nend\n".as_slice()
     );
-    let (status, text) = compare(&rt, &[], &[&SECOND])?;
+    let (status, text) = compare(&rt, &[], &[&SECOND]);
     assert_eq!(rt; status, 9);
     assert!(rt;
         text.as_slice()
             == b"same 1\nmissing 0 pg-input ethernet-input\nreordered 0\nnoise 0 0\nend\n".as_slice()
     );
-    Ok(())
 }
 
 #[test]
-fn a_dropped_one_that_came_is_found(rt: HostRuntime) -> Result<(), Fail> {
-    let sent = changed(&rt, &ASTRAY, 22, 63)?;
+fn a_dropped_one_that_came_is_found(rt: HostRuntime) {
+    let sent = changed(&rt, &ASTRAY, 22, 63);
     let frames: &[&[u8]] = &[&FIRST, sent.as_slice(), &SECOND];
-    let (status, text) = compare(&rt, &["--capture", "c"], frames)?;
+    let (status, text) = compare(&rt, &["--capture", "c"], frames);
     assert_eq!(rt; status, 9);
     assert!(rt;
         text.as_slice()
             == b"same 2\ndropped-but-there 1 ip4-lookup no-route 0:2\nreordered 0\nnoise 0 0\nend\n".as_slice()
     );
-    let (status, text) = compare(&rt, &[], frames)?;
+    let (status, text) = compare(&rt, &[], frames);
     assert_eq!(rt; status, 9);
     assert!(rt;
         text.as_slice() == b"same 2\nextra 1 0:2\nreordered 0\nnoise 0 0\nend\n".as_slice()
     );
-    Ok(())
 }
 
 #[test]
-fn refusals_have_their_status_and_their_line(rt: HostRuntime) -> Result<(), Fail> {
+fn refusals_have_their_status_and_their_line(rt: HostRuntime) {
     let alloc = rt.alloc();
     let mut folder = SureFolder::new(alloc);
-    folder.add("t", savefile(&rt, &[&FIRST])?.as_slice())?;
-    folder.add("bad", b"no savefile at all")?;
-    folder.add("r", REPORT)?;
+    folder
+        .add("t", savefile(&rt, &[&FIRST]).as_slice())
+        .expect(&rt, "memory");
+    folder
+        .add("bad", b"no savefile at all")
+        .expect(&rt, "memory");
+    folder.add("r", REPORT).expect(&rt, "memory");
     for (words, status, line) in [
         (["t", "--brief", "o"], 2, "usage\n"),
         (["nowhere", "r", "t"], 3, "load nowhere\n"),
@@ -309,7 +307,6 @@ fn refusals_have_their_status_and_their_line(rt: HostRuntime) -> Result<(), Fail
         assert_eq!(rt; found, status, "{line}");
         assert!(rt; out.written() == line.as_bytes(), "{line}");
     }
-    Ok(())
 }
 
 /// A script with a neighbor, a route over it, one that drops, and an edit which the kernel doesn't know.
@@ -342,13 +339,12 @@ ip -6 route replace local 2001:db8:0:0:0:0:0:0/32 dev lo
 ";
 
 #[test]
-fn the_kernels_router_is_set_up_by_commands(rt: HostRuntime) -> Result<(), Fail> {
+fn the_kernels_router_is_set_up_by_commands(rt: HostRuntime) {
     let alloc = rt.alloc();
     let mut folder = SureFolder::new(alloc);
-    folder.add("s", SCRIPT)?;
+    folder.add("s", SCRIPT).expect(&rt, "memory");
     let mut out = SureSink::new(alloc);
     let status = diff_run(alloc, &["--linux", "s"], &mut folder, &mut out);
     assert_eq!(rt; status, 0);
     assert!(rt; out.written() == COMMANDS);
-    Ok(())
 }
