@@ -7,7 +7,6 @@ mod writing;
 use std::alloc::Global;
 use std::process::Abort;
 use std::str;
-use std::test::Fail;
 use vg_model::{Edit, EditLine, Edits, HashKind, Kind, Mac, Names, RouteWord, VlanId};
 use vg_script::*;
 
@@ -23,9 +22,9 @@ fn assert_refused(rt: &impl Abort, alloc: Global, text: &[u8], line: u32, cause:
 }
 
 #[test]
-fn reads_nodes_arcs_and_comments(rt: HostRuntime) -> Result<(), Fail> {
+fn reads_nodes_arcs_and_comments(rt: HostRuntime) {
     let text = b"# \xff\n\nnode hand kind handoff-dst\r\n\tarc  hand resume ethernet-input # on";
-    let script = parse_script(rt.alloc(), text)?;
+    let script = parse_script(rt.alloc(), text).expect(&rt, "a script");
     let edits = script.start.as_slice();
     assert_eq!(rt; edits.len(), 2);
     assert_eq!(rt; edits[0].line, 3);
@@ -46,7 +45,6 @@ fn reads_nodes_arcs_and_comments(rt: HostRuntime) -> Result<(), Fail> {
         _ => assert!(rt; false, "no arc"),
     }
     assert_eq!(rt; script.blocks.as_slice().len(), 0);
-    Ok(())
 }
 
 /// Asserts that these are the names.
@@ -58,10 +56,10 @@ fn assert_names(rt: &impl Abort, names: &Names, expected: &[&str]) {
 }
 
 #[test]
-fn reads_interfaces_and_routes(rt: HostRuntime) -> Result<(), Fail> {
+fn reads_interfaces_and_routes(rt: HostRuntime) {
     let text =
         b"interface lan mac 0A:ff:00:00:00:01 mtu 1500 up filter\nroute 10.1.0.0/16 via next\n";
-    let script = parse_script(rt.alloc(), text)?;
+    let script = parse_script(rt.alloc(), text).expect(&rt, "a script");
     let edits = script.start.as_slice();
     assert_eq!(rt; edits.len(), 2);
     match &edits[0].edit {
@@ -91,14 +89,13 @@ fn reads_interfaces_and_routes(rt: HostRuntime) -> Result<(), Fail> {
         }
         _ => assert!(rt; false, "no route"),
     }
-    Ok(())
 }
 
 #[test]
-fn a_route_names_1_to_16_adjacencies(rt: HostRuntime) -> Result<(), Fail> {
+fn a_route_names_1_to_16_adjacencies(rt: HostRuntime) {
     let alloc = rt.alloc();
     let sixteen = b"route 0.0.0.0/0 via a,b,c,d,e,f,g,h,i,j,k,l,m,n,o,p\n";
-    let script = parse_script(alloc, sixteen)?;
+    let script = parse_script(alloc, sixteen).expect(&rt, "a script");
     let text = print_script(alloc, &script).expect(&rt, "memory");
     assert_eq!(rt; text.as_slice(), sixteen.as_slice());
     let refused: [&[u8]; 4] = [
@@ -118,33 +115,30 @@ fn a_route_names_1_to_16_adjacencies(rt: HostRuntime) -> Result<(), Fail> {
         ScriptCause::Word,
     );
     assert_refused(&rt, alloc, b"route 10.0.0.0/8 via", 1, ScriptCause::Word);
-    Ok(())
 }
 
 /// The kind of the one node of a script.
-fn read_kind(alloc: Global, word: &str) -> Result<Kind, Fail> {
+fn read_kind(rt: &impl Abort, alloc: Global, word: &str) -> Kind {
     let mut text = Vec::new(alloc);
-    text.extend_from_slice(b"node a kind ")?;
-    text.extend_from_slice(word.as_bytes())?;
-    text.extend_from_slice(b"\n")?;
-    let script = parse_script(alloc, &text)?;
-    let printed = print_script(alloc, &script).map_err(|_| "memory")?;
-    if printed.as_slice() != text.as_slice() {
-        return Err("another text".into());
-    }
+    text.extend_from_slice(b"node a kind ").expect(rt, "memory");
+    text.extend_from_slice(word.as_bytes()).expect(rt, "memory");
+    text.extend_from_slice(b"\n").expect(rt, "memory");
+    let script = parse_script(alloc, &text).expect(rt, "a script");
+    let printed = print_script(alloc, &script).expect(rt, "memory");
+    assert!(rt; printed.as_slice() == text.as_slice());
     match script.start.as_slice() {
         [
             EditLine {
                 edit: Edit::Node { kind, .. },
                 ..
             },
-        ] => Ok(*kind),
-        _ => Err("one node".into()),
+        ] => *kind,
+        _ => panic!(rt; "not one node"),
     }
 }
 
 #[test]
-fn kinds_with_and_without_numbers_are_read(rt: HostRuntime) -> Result<(), Fail> {
+fn kinds_with_and_without_numbers_are_read(rt: HostRuntime) {
     let kinds = [
         ("ethernet-dual", Kind::EthernetDual),
         ("ip6-input", Kind::Ip6Input),
@@ -165,7 +159,7 @@ fn kinds_with_and_without_numbers_are_read(rt: HostRuntime) -> Result<(), Fail> 
         ("pass", Kind::Pass),
     ];
     for (word, kind) in kinds {
-        assert_eq!(rt; read_kind(rt.alloc(), word)?, kind, "{word}");
+        assert_eq!(rt; read_kind(&rt, rt.alloc(), word), kind, "{word}");
     }
     let refused: [&[u8]; 14] = [
         b"node x kind dot1q-push-0",
@@ -186,7 +180,6 @@ fn kinds_with_and_without_numbers_are_read(rt: HostRuntime) -> Result<(), Fail> 
     for text in refused {
         assert_refused(&rt, rt.alloc(), text, 1, ScriptCause::Kind);
     }
-    Ok(())
 }
 
 #[test]
@@ -236,8 +229,8 @@ end
 }
 
 #[test]
-fn reads_a_process_and_a_block(rt: HostRuntime) -> Result<(), Fail> {
-    let script = parse_script(rt.alloc(), process_and_block())?;
+fn reads_a_process_and_a_block(rt: HostRuntime) {
+    let script = parse_script(rt.alloc(), process_and_block()).expect(&rt, "a script");
     assert_eq!(rt; script.start.as_slice().len(), 2);
     let blocks = script.blocks.as_slice();
     assert_eq!(rt; blocks.len(), 2);
@@ -268,20 +261,18 @@ fn reads_a_process_and_a_block(rt: HostRuntime) -> Result<(), Fail> {
         }
         Block::Process { .. } => assert!(rt; false, "a process"),
     }
-    Ok(())
 }
 
 #[test]
-fn what_was_read_is_printed_and_read_again(rt: HostRuntime) -> Result<(), Fail> {
+fn what_was_read_is_printed_and_read_again(rt: HostRuntime) {
     let alloc = rt.alloc();
-    let script = parse_script(alloc, process_and_block())?;
+    let script = parse_script(alloc, process_and_block()).expect(&rt, "a script");
     let text = print_script(alloc, &script).expect(&rt, "memory");
     assert_eq!(rt; text.as_slice(), process_and_block());
-    let again = parse_script(alloc, text.as_slice())?;
+    let again = parse_script(alloc, text.as_slice()).expect(&rt, "a script");
     assert_eq!(rt; again.blocks.as_slice().len(), 2);
     laws::events_are_in_order();
     laws::events_are_few();
-    Ok(())
 }
 
 #[test]
@@ -304,9 +295,11 @@ fn a_block_stands_in_no_block(rt: HostRuntime) {
 }
 
 #[test]
-fn a_script_has_at_most_999_events(rt: HostRuntime) -> Result<(), Fail> {
+fn a_script_has_at_most_999_events(rt: HostRuntime) {
     let alloc = rt.alloc();
-    let script = parse_script(alloc, b"process p every 1 count 998\nthen\nend\nat 1\nend")?;
+    let script = parse_script(alloc, b"process p every 1 count 998\nthen\nend\nat 1\nend").expect(
+        &rt, "a script",
+    );
     assert_eq!(rt; script.blocks.as_slice().len(), 2);
     assert_refused(
         &rt,
@@ -322,17 +315,15 @@ fn a_script_has_at_most_999_events(rt: HostRuntime) -> Result<(), Fail> {
         3,
         ScriptCause::TooManyGenerations,
     );
-    Ok(())
 }
 
 #[test]
-fn a_text_of_more_than_262144_bytes_is_too_large(rt: HostRuntime) -> Result<(), Fail> {
-    let mut text = vec![in rt.alloc(); b'#'; 262_144]?;
-    let script = parse_script(rt.alloc(), &text)?;
+fn a_text_of_more_than_262144_bytes_is_too_large(rt: HostRuntime) {
+    let mut text = vec![in rt.alloc(); b'#'; 262_144].expect(&rt, "memory");
+    let script = parse_script(rt.alloc(), &text).expect(&rt, "a script");
     assert_eq!(rt; script.start.as_slice().len(), 0);
-    text.push(b'#')?;
+    text.push(b'#').expect(&rt, "memory");
     assert_refused(&rt, rt.alloc(), &text, 0, ScriptCause::TooLarge);
-    Ok(())
 }
 
 #[test]
@@ -344,20 +335,23 @@ fn a_cause_has_a_word(rt: HostRuntime) {
 }
 
 #[test]
-fn lists_keep_what_is_put_in(rt: HostRuntime) -> Result<(), Fail> {
+fn lists_keep_what_is_put_in(rt: HostRuntime) {
     let mut groups = Vec::new(rt.alloc());
-    groups.push(Edits::from_vec(Vec::new(rt.alloc())))?;
+    groups
+        .push(Edits::from_vec(Vec::new(rt.alloc())))
+        .expect(&rt, "memory");
     let groups = Groups::from_vec(groups);
     assert_eq!(rt; groups.as_slice().len(), 1);
     assert_eq!(rt; groups.into_vec().len(), 1);
     let mut blocks = Vec::new(rt.alloc());
-    blocks.push(Block::At {
-        line: 1,
-        time: 5,
-        edits: Edits::from_vec(Vec::new(rt.alloc())),
-    })?;
+    blocks
+        .push(Block::At {
+            line: 1,
+            time: 5,
+            edits: Edits::from_vec(Vec::new(rt.alloc())),
+        })
+        .expect(&rt, "memory");
     let blocks = Blocks::from_vec(blocks);
     assert_eq!(rt; blocks.as_slice().len(), 1);
     assert_eq!(rt; blocks.into_vec().len(), 1);
-    Ok(())
 }

@@ -1,23 +1,25 @@
 use std::alloc::Global;
 use std::process::Abort;
-use std::test::Fail;
 use vg_words::laws::{loads_are_in_range, runs_are_in_range};
 use vg_words::{Command, Run, read_words};
 
 /// The run that these words ask for.
-fn run_of<'a>(rt: &impl Abort, alloc: Global, words: &'a [&'a str]) -> Result<Run<'a>, Fail> {
-    match read_words(alloc, words)?.expect(rt, "a command") {
-        Command::Run(run) => Ok(run),
-        Command::Load { .. } => Err("a load")?,
-        Command::Check(_) => Err("a check")?,
+fn run_of<'a>(rt: &impl Abort, alloc: Global, words: &'a [&'a str]) -> Run<'a> {
+    match read_words(alloc, words)
+        .expect(rt, "memory")
+        .expect(rt, "a command")
+    {
+        Command::Run(run) => run,
+        Command::Load { .. } => panic!(rt; "a load"),
+        Command::Check(_) => panic!(rt; "a check"),
     }
 }
 
 #[test]
-fn names_alone_are_a_plain_run(rt: HostRuntime) -> Result<(), Fail> {
+fn names_alone_are_a_plain_run(rt: HostRuntime) {
     runs_are_in_range();
     loads_are_in_range();
-    let run = run_of(&rt, rt.alloc(), &["run", "c", "s", "t"])?;
+    let run = run_of(&rt, rt.alloc(), &["run", "c", "s", "t"]);
     assert_eq!(rt; run.workers, 1);
     assert_eq!(rt; run.buffers, 4_096);
     assert_eq!(rt; run.queue, 64);
@@ -25,13 +27,12 @@ fn names_alone_are_a_plain_run(rt: HostRuntime) -> Result<(), Fail> {
     assert_eq!(rt; run.trace, 0);
     assert!(rt; run.turns.is_none());
     assert!(rt; run.capture == "c" && run.script == "s" && run.tx == "t");
-    Ok(())
 }
 
 #[test]
-fn options_stand_anywhere_behind_run(rt: HostRuntime) -> Result<(), Fail> {
+fn options_stand_anywhere_behind_run(rt: HostRuntime) {
     let words = ["run", "--workers=2", "--buffers", "768", "c", "s", "t"];
-    let run = run_of(&rt, rt.alloc(), &words)?;
+    let run = run_of(&rt, rt.alloc(), &words);
     assert_eq!(rt; run.workers, 2);
     assert_eq!(rt; run.buffers, 768);
 
@@ -47,20 +48,22 @@ fn options_stand_anywhere_behind_run(rt: HostRuntime) -> Result<(), Fail> {
         "t=",
         "--turns==v",
     ];
-    let run = run_of(&rt, rt.alloc(), &words)?;
+    let run = run_of(&rt, rt.alloc(), &words);
     assert_eq!(rt; run.workers, 1);
     assert_eq!(rt; run.queue, 256);
     assert_eq!(rt; run.burst, 1);
     assert_eq!(rt; run.trace, 256);
     assert!(rt; run.turns.expect(&rt, "turns") == "=v");
     assert!(rt; run.capture == "help" && run.script == "s" && run.tx == "t=");
-    Ok(())
 }
 
 #[test]
-fn a_load_has_three_numbers(rt: HostRuntime) -> Result<(), Fail> {
+fn a_load_has_three_numbers(rt: HostRuntime) {
     let words = ["load", "18446744073709551615", "65536", "8"];
-    match read_words(rt.alloc(), &words)?.expect(&rt, "a command") {
+    match read_words(rt.alloc(), &words)
+        .expect(&rt, "memory")
+        .expect(&rt, "a command")
+    {
         Command::Load {
             seed,
             packets,
@@ -70,14 +73,13 @@ fn a_load_has_three_numbers(rt: HostRuntime) -> Result<(), Fail> {
             assert_eq!(rt; packets, 65_536);
             assert_eq!(rt; workers, 8);
         }
-        Command::Run(_) => Err("a run")?,
-        Command::Check(_) => Err("a check")?,
+        Command::Run(_) => panic!(rt; "a run"),
+        Command::Check(_) => panic!(rt; "a check"),
     }
-    Ok(())
 }
 
 #[test]
-fn a_check_has_four_names_and_a_queue(rt: HostRuntime) -> Result<(), Fail> {
+fn a_check_has_four_names_and_a_queue(rt: HostRuntime) {
     let same: [(&[&str], u64); 4] = [
         (&["check", "c", "s", "t", "r"], 64),
         (&["check", "--queue", "1", "c", "s", "t", "r"], 1),
@@ -85,33 +87,34 @@ fn a_check_has_four_names_and_a_queue(rt: HostRuntime) -> Result<(), Fail> {
         (&["check", "c", "s", "t", "r", "--queue=7"], 7),
     ];
     for (words, queue) in same {
-        match read_words(rt.alloc(), words)?.expect(&rt, "a command") {
+        match read_words(rt.alloc(), words)
+            .expect(&rt, "memory")
+            .expect(&rt, "a command")
+        {
             Command::Check(check) => {
                 assert_eq!(rt; check.queue, queue);
                 assert!(rt; check.capture == "c" && check.script == "s" && check.tx == "t");
                 assert!(rt; check.report == "r");
             }
-            Command::Run(_) => Err("a run")?,
-            Command::Load { .. } => Err("a load")?,
+            Command::Run(_) => panic!(rt; "a run"),
+            Command::Load { .. } => panic!(rt; "a load"),
         }
     }
-    Ok(())
 }
 
 #[test]
-fn frames_are_held_where_it_is_said_once(rt: HostRuntime) -> Result<(), Fail> {
+fn frames_are_held_where_it_is_said_once(rt: HostRuntime) {
     let alloc = rt.alloc();
-    assert!(rt; !run_of(&rt, alloc, &["run", "c", "s", "t"])?.hold);
-    assert!(rt; run_of(&rt, alloc, &["run", "--hold", "c", "s", "t"])?.hold);
+    assert!(rt; !run_of(&rt, alloc, &["run", "c", "s", "t"]).hold);
+    assert!(rt; run_of(&rt, alloc, &["run", "--hold", "c", "s", "t"]).hold);
     let words = ["run", "--queue=1", "c", "s", "t", "--hold"];
-    let run = run_of(&rt, alloc, &words)?;
+    let run = run_of(&rt, alloc, &words);
     assert!(rt; run.hold && run.capture == "c" && run.tx == "t");
     assert_eq!(rt; run.queue, 1);
-    Ok(())
 }
 
 #[test]
-fn all_other_words_are_no_command(rt: HostRuntime) -> Result<(), Fail> {
+fn all_other_words_are_no_command(rt: HostRuntime) {
     let faulty: [&[&str]; 40] = [
         &[],
         &["--help"],
@@ -155,7 +158,10 @@ fn all_other_words_are_no_command(rt: HostRuntime) -> Result<(), Fail> {
         &["load", "18446744073709551616", "1", "1"],
     ];
     for words in faulty {
-        assert!(rt; read_words(rt.alloc(), words)?.is_none());
+        assert!(rt;
+            read_words(rt.alloc(), words)
+                .expect(&rt, "memory")
+                .is_none()
+        );
     }
-    Ok(())
 }

@@ -3,16 +3,15 @@
 use super::{assert_names, assert_refused};
 use std::alloc::Global;
 use std::process::Abort;
-use std::test::Fail;
 use vg_model::{Bytes, Edit, EditLine, RouteWord};
 use vg_script::{ScriptCause, parse_script, print_script};
 
 /// The prefix of `unroute6`, as it is read and as it is printed again.
-fn read_prefix6(rt: &impl Abort, alloc: Global, word: &str) -> Result<(u128, u8, Bytes), Fail> {
+fn read_prefix6(rt: &impl Abort, alloc: Global, word: &str) -> (u128, u8, Bytes) {
     let mut text = Vec::new(alloc);
-    text.extend_from_slice(b"unroute6 ")?;
-    text.extend_from_slice(word.as_bytes())?;
-    let script = parse_script(alloc, &text)?;
+    text.extend_from_slice(b"unroute6 ").expect(rt, "memory");
+    text.extend_from_slice(word.as_bytes()).expect(rt, "memory");
+    let script = parse_script(alloc, &text).expect(rt, "a script");
     let printed = print_script(alloc, &script).expect(rt, "memory");
     match script.start.as_slice() {
         [
@@ -20,8 +19,8 @@ fn read_prefix6(rt: &impl Abort, alloc: Global, word: &str) -> Result<(u128, u8,
                 edit: Edit::Unroute6 { prefix },
                 ..
             },
-        ] => Ok((prefix.addr, prefix.len, printed)),
-        _ => Err("one edit".into()),
+        ] => (prefix.addr, prefix.len, printed),
+        _ => panic!(rt; "not one edit"),
     }
 }
 
@@ -118,18 +117,21 @@ const ACCEPTED: [(&str, u128, u8, &str); 18] = [
 ];
 
 #[test]
-fn ipv6_prefixes_are_read_and_printed_in_full(rt: HostRuntime) -> Result<(), Fail> {
+fn ipv6_prefixes_are_read_and_printed_in_full(rt: HostRuntime) {
     for (word, addr, len, printed) in ACCEPTED {
-        let (read_addr, read_len, text) = read_prefix6(&rt, rt.alloc(), word)?;
+        let (read_addr, read_len, text) = read_prefix6(&rt, rt.alloc(), word);
         assert_eq!(rt; read_addr, addr, "{word}");
         assert_eq!(rt; read_len, len, "{word}");
         let mut expected = Vec::new(rt.alloc());
-        expected.extend_from_slice(b"unroute6 ")?;
-        expected.extend_from_slice(printed.as_bytes())?;
-        expected.extend_from_slice(b"\n")?;
+        expected
+            .extend_from_slice(b"unroute6 ")
+            .expect(&rt, "memory");
+        expected
+            .extend_from_slice(printed.as_bytes())
+            .expect(&rt, "memory");
+        expected.extend_from_slice(b"\n").expect(&rt, "memory");
         assert_eq!(rt; text.as_slice(), expected.as_slice(), "{word}");
     }
-    Ok(())
 }
 
 /// Words that are no prefixes.
@@ -167,26 +169,26 @@ const OTHER_WORDS: [&str; 30] = [
 ];
 
 #[test]
-fn other_words_are_no_ipv6_prefixes(rt: HostRuntime) -> Result<(), Fail> {
+fn other_words_are_no_ipv6_prefixes(rt: HostRuntime) {
     for word in OTHER_WORDS {
         let mut text = Vec::new(rt.alloc());
-        text.extend_from_slice(b"route6 ")?;
-        text.extend_from_slice(word.as_bytes())?;
-        text.extend_from_slice(b" drop")?;
+        text.extend_from_slice(b"route6 ").expect(&rt, "memory");
+        text.extend_from_slice(word.as_bytes())
+            .expect(&rt, "memory");
+        text.extend_from_slice(b" drop").expect(&rt, "memory");
         assert_refused(&rt, rt.alloc(), &text, 1, ScriptCause::Prefix);
     }
-    Ok(())
 }
 
 #[test]
-fn ipv6_routes_are_read(rt: HostRuntime) -> Result<(), Fail> {
+fn ipv6_routes_are_read(rt: HostRuntime) {
     let alloc = rt.alloc();
     let text = b"route6 2001:db8:0:0:0:0:0:0/32 via six,seven
 route6 0:0:0:0:0:0:0:0/0 local
 route6 0:0:0:0:0:0:0:1/128 drop
 unroute6 0:0:0:0:0:0:0:1/128
 ";
-    let script = parse_script(alloc, text)?;
+    let script = parse_script(alloc, text).expect(&rt, "a script");
     let edits = script.start.as_slice();
     assert_eq!(rt; edits.len(), 4);
     match &edits[0].edit {
@@ -205,5 +207,4 @@ unroute6 0:0:0:0:0:0:0:1/128
     assert_refused(&rt, alloc, b"route6 ::/0 via a,", 1, ScriptCause::Name);
     assert_refused(&rt, alloc, b"unroute6 ::/0 drop", 1, ScriptCause::Word);
     assert_refused(&rt, alloc, b"route6", 1, ScriptCause::Word);
-    Ok(())
 }

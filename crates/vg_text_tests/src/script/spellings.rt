@@ -1,9 +1,8 @@
 //! Spellings of IPv6 prefixes and of the names of a route, worked out by hand, and lines with several faults.
 
 use super::{assert_names, assert_refused};
-use std::alloc::{AllocError, Global};
+use std::alloc::Global;
 use std::process::Abort;
-use std::test::Fail;
 use vg_model::{Edit, EditLine, RouteWord};
 use vg_script::{Script, ScriptCause, parse_script, print_script};
 
@@ -183,12 +182,13 @@ const SPELLINGS: [(&str, &str, Answer); 40] = [
 ];
 
 /// The text of one line: a statement with this word.
-fn line_of(alloc: Global, statement: &str, word: &str) -> Result<Vec<u8>, AllocError> {
+fn line_of(rt: &impl Abort, alloc: Global, statement: &str, word: &str) -> Vec<u8> {
     let mut text = Vec::new(alloc);
-    text.extend_from_slice(statement.as_bytes())?;
-    text.extend_from_slice(word.as_bytes())?;
-    text.push(b'\n')?;
-    Ok(text)
+    text.extend_from_slice(statement.as_bytes())
+        .expect(rt, "memory");
+    text.extend_from_slice(word.as_bytes()).expect(rt, "memory");
+    text.push(b'\n').expect(rt, "memory");
+    text
 }
 
 /// Asserts that a script is one edit, with this value.
@@ -220,36 +220,32 @@ fn assert_value(rt: &impl Abort, script: &Script, answer: Answer) {
 }
 
 /// Asserts that a line is read with this value, printed as another, and then read with the same value.
-fn assert_read(
-    rt: &impl Abort,
-    alloc: Global,
-    text: &[u8],
-    printed: &[u8],
-    answer: Answer,
-) -> Result<(), Fail> {
-    let script = parse_script(alloc, text)?;
+fn assert_read(rt: &impl Abort, alloc: Global, text: &[u8], printed: &[u8], answer: Answer) {
+    let script = parse_script(alloc, text).expect(rt, "a script");
     assert_value(rt, &script, answer);
     let again = print_script(alloc, &script).expect(rt, "memory");
     assert_eq!(rt; again.as_slice(), printed);
-    assert_value(rt, &parse_script(alloc, again.as_slice())?, answer);
-    Ok(())
+    assert_value(
+        rt,
+        &parse_script(alloc, again.as_slice()).expect(rt, "a script"),
+        answer,
+    );
 }
 
 #[test]
-fn words_are_read_and_printed_or_refused(rt: HostRuntime) -> Result<(), Fail> {
+fn words_are_read_and_printed_or_refused(rt: HostRuntime) {
     let alloc = rt.alloc();
     for (statement, word, answer) in SPELLINGS {
-        let text = line_of(alloc, statement, word)?;
+        let text = line_of(&rt, alloc, statement, word);
         match answer {
             Answer::Prefix6(_, _, printed) => {
-                let printed = line_of(alloc, statement, printed)?;
-                assert_read(&rt, alloc, &text, &printed, answer)?;
+                let printed = line_of(&rt, alloc, statement, printed);
+                assert_read(&rt, alloc, &text, &printed, answer);
             }
-            Answer::Names(_) => assert_read(&rt, alloc, &text, &text, answer)?,
+            Answer::Names(_) => assert_read(&rt, alloc, &text, &text, answer),
             Answer::Refused(cause) => assert_refused(&rt, alloc, &text, 1, cause),
         }
     }
-    Ok(())
 }
 
 /// Texts with one fault or several: the line and the cause that are told.
@@ -276,13 +272,13 @@ const FAULTS: [(&str, u32, ScriptCause); 11] = [
 ];
 
 #[test]
-fn the_first_fault_of_a_route_is_told(rt: HostRuntime) -> Result<(), Fail> {
+fn the_first_fault_of_a_route_is_told(rt: HostRuntime) {
     let alloc = rt.alloc();
     for (text, line, cause) in FAULTS {
         assert_refused(&rt, alloc, text.as_bytes(), line, cause);
     }
     // A comment may begin within a word.
-    let script = parse_script(alloc, b"route6 ::/0 via a,b#,,")?;
+    let script = parse_script(alloc, b"route6 ::/0 via a,b#,,").expect(&rt, "a script");
     let edits = script.start.as_slice();
     assert_eq!(rt; edits.len(), 1);
     match &edits[0].edit {
@@ -292,5 +288,4 @@ fn the_first_fault_of_a_route_is_told(rt: HostRuntime) -> Result<(), Fail> {
         } => assert_names(&rt, names, &["a", "b"]),
         _ => assert!(rt; false, "no route"),
     }
-    Ok(())
 }

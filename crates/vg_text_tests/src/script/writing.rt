@@ -3,7 +3,6 @@ ghost use Rattle.std.specs.Prelude.{◌≡◌};
 
 use std::alloc::Global;
 use std::process::Abort;
-use std::test::Fail;
 use vg_model::{Edit, EditLine, Edits, HashKind, Kind, Mac, Name, Names, Prefix, RouteWord};
 use vg_script::{Block, Blocks, Script, laws, parse_script, print_script};
 
@@ -21,9 +20,9 @@ fn line(edit: Edit) -> EditLine
 }
 
 #[test]
-fn every_edit_has_its_words(rt: HostRuntime) -> Result<(), Fail> {
+fn every_edit_has_its_words(rt: HostRuntime) {
     let alloc = rt.alloc();
-    let neighbors = vec![in alloc; name(&rt, b"east"), name(&rt, b"west")]?;
+    let neighbors = vec![in alloc; name(&rt, b"east"), name(&rt, b"west")].expect(&rt, "memory");
     let neighbors = Names::from_vec(neighbors);
     let edits = vec![in alloc;
         line(Edit::Interface {
@@ -78,7 +77,8 @@ fn every_edit_has_its_words(rt: HostRuntime) -> Result<(), Fail> {
                 len: 16,
             },
         }),
-    ]?;
+    ]
+    .expect(&rt, "memory");
     let script = Script {
         start: Edits::from_vec(edits),
         blocks: Blocks::from_vec(Vec::new(alloc)),
@@ -98,40 +98,38 @@ unroute 10.1.0.0/16
     laws::printed_is_read_back();
     assert_eq!(rt; script.start.into_vec().len(), 9);
     assert_eq!(rt; script.blocks.into_vec().len(), 0);
-    Ok(())
 }
 
 /// The one block of a script, which is printed as it was read.
-fn read_block(rt: &impl Abort, alloc: Global, text: &[u8]) -> Result<Block, Fail> {
-    let script = parse_script(alloc, text)?;
+fn read_block(rt: &impl Abort, alloc: Global, text: &[u8]) -> Block {
+    let script = parse_script(alloc, text).expect(rt, "a script");
     let printed = print_script(alloc, &script).expect(rt, "memory");
     assert!(rt; printed.as_slice() == text);
     let mut blocks = script.blocks.into_vec();
     match blocks.pop() {
-        Some(block) if blocks.is_empty() => Ok(block),
-        _ => Err("one block".into()),
+        Some(block) if blocks.is_empty() => block,
+        _ => panic!(rt; "not one block"),
     }
 }
 
 #[test]
-fn an_empty_block_has_two_lines(rt: HostRuntime) -> Result<(), Fail> {
-    let block = read_block(&rt, rt.alloc(), b"at 1000000000000\nend\n")?;
+fn an_empty_block_has_two_lines(rt: HostRuntime) {
+    let block = read_block(&rt, rt.alloc(), b"at 1000000000000\nend\n");
     let Block::At { line, time, edits } = block else {
-        return Err("a block".into());
+        panic!(rt; "no block")
     };
     assert!(rt; line == 1 && time == 1_000_000_000_000 && edits.as_slice().is_empty());
-    Ok(())
 }
 
 #[test]
-fn a_process_has_a_then_between_its_groups(rt: HostRuntime) -> Result<(), Fail> {
+fn a_process_has_a_then_between_its_groups(rt: HostRuntime) {
     let text = b"process p every 250 count 999
 node a kind pass
 then
 then
 end
 ";
-    let block = read_block(&rt, rt.alloc(), text)?;
+    let block = read_block(&rt, rt.alloc(), text);
     let Block::Process {
         name,
         every,
@@ -140,12 +138,11 @@ end
         ..
     } = block
     else {
-        return Err("a process".into());
+        panic!(rt; "no process")
     };
     assert!(rt; name.as_str() == "p" && every == 250 && count == 999);
     let groups = groups.into_vec();
     assert!(rt; groups.len() == 3);
     assert!(rt; groups[0].as_slice().len() == 1);
     assert!(rt; groups[1].as_slice().is_empty() && groups[2].as_slice().is_empty());
-    Ok(())
 }
