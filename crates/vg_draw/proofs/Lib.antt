@@ -1,2 +1,4 @@
+pub mod CountLemmas
 pub mod LineLemmas
+pub mod PrefixLemmas
 pub mod OnceLemmas

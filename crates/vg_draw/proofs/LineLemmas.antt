@@ -1,6 +1,7 @@
 -- Lines in a row, and what stands at a place of a graph.
-use Rattle.std.proofs.Common.{◌≡◌, ℕ, ◌+◌, ◌<◌, List, [], ◌∷◌, ◌++◌, length, take, refl, sym, ap, ◌∙◌, append-nil, append_assoc, add-zero, zero-add, suc, map, length-take-le, arith, flat_map}
+use Rattle.std.proofs.Common.{◌≡◌, ℕ, ◌+◌, ◌<◌, List, [], ◌∷◌, ◌++◌, length, take, get_or, refl, sym, ap, ◌∙◌, append-nil, append_assoc, add-zero, zero-add, suc, map, length-take-le, arith, flat_map, decimal}
 use Rattle.std.proofs.lemmas.List.{take_more}
+use Rattle.std.proofs.lemmas.Grind.{flat_map-append}
 use Rattle.std.proofs.lemmas.Option.{get_or_from_slice_get, slice_get_within}
 use Rattle.std.specs.Prelude.{Option, Some, None, option_map, option_and_then, unwrap_or, slice_get}
 use Rattle.std.specs.List.{join_with_byte}
@@ -9,20 +10,32 @@ use Rattle.vg_model.specs.Graph.{Graph, Node, kind_at, slots, arc, next_nodes}
 use Rattle.vg_model.specs.Valid.{IsValid}
 use Rattle.vg_model.proofs.Journeys.{map_some}
 use Rattle.vg_model.proofs.LegEnds.{all_at}
-use Rattle.vg_draw.specs.Drawing.{pair_text, numbered, all_of}
+use Rattle.vg_draw.specs.Prefixes.{pair_text, group_text}
+use Rattle.vg_draw.specs.Drawing.{numbered, all_of}
 
 -- pieces joined by a byte are the first, and each other behind the byte
 join_with_byte-cons : (c : ℕ) (x : List ℕ) (xs : List (List ℕ)) → join_with_byte c (x ∷ xs) ≡ x ++ flat_map (λ y. c ∷ y) xs
 join_with_byte-cons c x [] = sym (append-nil x)
 join_with_byte-cons c x (y ∷ ys) = ap (λ r. x ++ c ∷ r) (join_with_byte-cons c y ys)
 
--- the pairs of an address are the first, and each other behind `:`
-pub pairs-cons : (byte : ℕ) (bytes : List ℕ) → join_with_byte 58 (map pair_text (byte ∷ bytes)) ≡ pair_text byte ++ flat_map (λ b. 58 ∷ pair_text b) bytes
-pairs-cons byte bytes = join_with_byte-cons 58 (pair_text byte) (map pair_text bytes) ∙ ap (λ r. pair_text byte ++ r) (behind bytes)
+-- the texts of elements joined by a byte are that of the first, and each other behind the byte
+joined_map-cons : {X : Type 0} (c : ℕ) (f : X → List ℕ) (x : X) (xs : List X)
+    → join_with_byte c (map f (x ∷ xs)) ≡ f x ++ flat_map (λ y. c ∷ f y) xs
+joined_map-cons {X = X} c f x xs = join_with_byte-cons c (f x) (map f xs) ∙ ap (λ r. f x ++ r) (behind xs)
   where
-    behind : (ys : List ℕ) → flat_map (λ y. 58 ∷ y) (map pair_text ys) ≡ flat_map (λ y. 58 ∷ pair_text y) ys
+    behind : (ys : List X) → flat_map (λ y. c ∷ y) (map f ys) ≡ flat_map (λ y. c ∷ f y) ys
     behind [] = refl
-    behind (y ∷ ys) = ap (λ r. (58 ∷ pair_text y) ++ r) (behind ys)
+    behind (y ∷ ys) = ap (λ r. (c ∷ f y) ++ r) (behind ys)
+
+-- the pairs of a link-layer address, the numbers of an IPv4 address and the groups of an IPv6 address, from the first on
+pub pairs-cons : (byte : ℕ) (bytes : List ℕ) → join_with_byte 58 (map pair_text (byte ∷ bytes)) ≡ pair_text byte ++ flat_map (λ b. 58 ∷ pair_text b) bytes
+pairs-cons byte bytes = joined_map-cons 58 pair_text byte bytes
+
+pub parts-cons : (byte : ℕ) (bytes : List ℕ) → join_with_byte 46 (map decimal (byte ∷ bytes)) ≡ decimal byte ++ flat_map (λ b. 46 ∷ decimal b) bytes
+parts-cons byte bytes = joined_map-cons 46 decimal byte bytes
+
+pub groups-cons : (group : ℕ) (groups : List ℕ) → join_with_byte 58 (map group_text (group ∷ groups)) ≡ group_text group ++ flat_map (λ g. 58 ∷ group_text g) groups
+groups-cons group groups = joined_map-cons 58 group_text group groups
 
 -- the lines of elements in front of an element, and the line of that
 numbered-append : {X : Type 0} (f : ℕ → X → List ℕ) (n : ℕ) (xs : List X) (x : X) → all_of (numbered f n (xs ++ x ∷ [])) ≡ all_of (numbered f n xs) ++ f (n + length xs) x
@@ -85,11 +98,11 @@ length-next_nodes g n kind valid is_kind =
     ∙ all_at (λ (node : Node). length node.arcs ≡ length (slots node.kind)) g.nodes n found.0 found.1 valid.whole
     ∙ ap (λ k. length (slots k)) found.2
 
--- a text in three pieces
-pub three : (before a b c : List ℕ) → ((before ++ a) ++ b) ++ c ≡ before ++ (a ++ (b ++ c))
-three before a b c = simp append_assoc
+-- a text in five pieces
+pub five : (before a b c d e : List ℕ) → ((((before ++ a) ++ b) ++ c) ++ d) ++ e ≡ before ++ (a ++ (b ++ (c ++ (d ++ e))))
+five before a b c d e = simp append_assoc
 
--- a line: two blanks, what a thing is named, its shape, and then four, six, seven or eight pieces
+-- a line: two blanks, what a thing is named, its shape, and then four, six or eight pieces
 pub four_behind : (before begin id shape a b c d : List ℕ)
     → ((((before ++ (begin ++ (id ++ shape))) ++ a) ++ b) ++ c) ++ d ≡ before ++ (begin ++ (id ++ (shape ++ (a ++ (b ++ (c ++ d))))))
 four_behind before begin id shape a b c d = simp append_assoc
@@ -98,21 +111,30 @@ pub six_behind : (before begin id shape a b c d e f : List ℕ)
     → ((((((before ++ (begin ++ (id ++ shape))) ++ a) ++ b) ++ c) ++ d) ++ e) ++ f ≡ before ++ (begin ++ (id ++ (shape ++ (a ++ (b ++ (c ++ (d ++ (e ++ f))))))))
 six_behind before begin id shape a b c d e f = simp append_assoc
 
-pub seven_behind : (before begin id shape a b c d e f g : List ℕ)
-    → (((((((before ++ (begin ++ (id ++ shape))) ++ a) ++ b) ++ c) ++ d) ++ e) ++ f) ++ g
-    ≡ before ++ (begin ++ (id ++ (shape ++ (a ++ (b ++ (c ++ (d ++ (e ++ (f ++ g)))))))))
-seven_behind before begin id shape a b c d e f g = simp append_assoc
-
 pub eight_behind : (before begin id shape a b c d e f g h : List ℕ)
     → ((((((((before ++ (begin ++ (id ++ shape))) ++ a) ++ b) ++ c) ++ d) ++ e) ++ f) ++ g) ++ h
     ≡ before ++ (begin ++ (id ++ (shape ++ (a ++ (b ++ (c ++ (d ++ (e ++ (f ++ (g ++ h))))))))))
 eight_behind before begin id shape a b c d e f g h = simp append_assoc
 
--- the drawing in its parts
-pub drawing_steps : (before head nodes arcs interfaces adjacencies end : List ℕ)
-    → (((((before ++ head) ++ nodes) ++ arcs) ++ interfaces) ++ adjacencies) ++ end
-    ≡ before ++ (head ++ (nodes ++ (arcs ++ (interfaces ++ (adjacencies ++ end)))))
-drawing_steps before head nodes arcs interfaces adjacencies end = simp append_assoc
+-- the drawing in its parts, each appended to what stood before it
+pub drawing_steps : (before head nodes arcs drops interfaces adjacencies end : List ℕ) {a b c d e f g : List ℕ} → a ≡ before ++ head → b ≡ a ++ nodes → c ≡ b ++ arcs
+    → d ≡ c ++ drops → e ≡ d ++ interfaces → f ≡ e ++ adjacencies → g ≡ f ++ end
+    → g ≡ before ++ (head ++ (nodes ++ (arcs ++ (drops ++ (interfaces ++ (adjacencies ++ end))))))
+drawing_steps before head nodes arcs drops interfaces adjacencies end p q r s t u v = cc (p, q, r, s, t, u, v, regrouped)
+  where
+    regrouped : ((((((before ++ head) ++ nodes) ++ arcs) ++ drops) ++ interfaces) ++ adjacencies) ++ end
+        ≡ before ++ (head ++ (nodes ++ (arcs ++ (drops ++ (interfaces ++ (adjacencies ++ end))))))
+    regrouped = simp append_assoc
+
+-- one more element, and the text that it adds
+pub one_more_text : {X : Type 0} (f : X → List ℕ) (xs : List X) (i : ℕ) (x : X) (before out out' : List ℕ) → i < length xs → x ≡ get_or xs i x
+    → out ≡ before ++ flat_map f (take i xs) → out' ≡ out ++ f x → out' ≡ before ++ flat_map f (take (i + 1) xs)
+one_more_text f xs i x before out out' h at so_far more =
+    more ∙ ap (λ r. r ++ f x) so_far ∙ append_assoc before (flat_map f (take i xs)) (f x)
+    ∙ ap (λ y. before ++ (flat_map f (take i xs) ++ f y)) at
+    ∙ ap (λ r. before ++ (flat_map f (take i xs) ++ r)) (sym (append-nil (f (get_or xs i x))))
+    ∙ ap (λ r. before ++ r) (sym (flat_map-append f (take i xs) (get_or xs i x ∷ [])))
+    ∙ ap (λ ys. before ++ flat_map f ys) (sym (take_more xs i x h))
 
 -- a line of a node more
 pub one_more_node : (f : ℕ → List ℕ → Kind → List ℕ) (nodes : List Node) (i : ℕ) (name : List ℕ) (kind : Kind) (before out out' : List ℕ)
@@ -121,6 +143,15 @@ pub one_more_node : (f : ℕ → List ℕ → Kind → List ℕ) (nodes : List N
 one_more_node f nodes i name kind before out out' is so_far more =
     one_more_line (λ number (node : Node). f number node.name node.kind) nodes i is.node before out out' is.at so_far
     (more ∙ ap (λ x. out ++ f i x kind) (sym is.is_name) ∙ ap (λ k. out ++ f i is.node.name k) (sym is.is_kind))
+
+-- the lines of a node's name more
+pub one_more_name : (f : ℕ → List ℕ → List ℕ) (nodes : List Node) (i : ℕ) (name : List ℕ) (before out out' : List ℕ)
+    → option_map (λ (n : Node). n.name) (slice_get nodes i) ≡ Some name → out ≡ before ++ all_of (numbered (λ number (node : Node). f number node.name) 0 (take i nodes))
+    → out' ≡ out ++ f i name → out' ≡ before ++ all_of (numbered (λ number (node : Node). f number node.name) 0 (take (i + 1) nodes))
+one_more_name f nodes i name before out out' is so_far more =
+    let found = map_some (λ (node : Node). node.name) (slice_get nodes i) name is in
+    one_more_line (λ number (node : Node). f number node.name) nodes i found.0 before out out' found.1 so_far
+    (more ∙ ap (λ x. out ++ f i x) (sym found.2))
 
 -- the lines of a node's arcs more
 pub one_more_arcs : (f : ℕ → List ℕ → Kind → List ℕ → List ℕ) (g : Graph) (i : ℕ) (name : List ℕ) (kind : Kind) (before out out' : List ℕ)

@@ -1,6 +1,5 @@
 -- The drawing of a graph in the DOT language, line by line.
-use Rattle.std.specs.Prelude.{ℕ, suc, ◌-◌, ◌/◌, ◌%◌, ◌==◌, Bool, true, false, List, [], ◌∷◌, ◌++◌, map, flat_map, slice_get, codes, decimal, bytes_eq, Option, Some, None, option_map, option_and_then, unwrap_or, if◌then◌else◌}
-use Rattle.std.specs.Char.{digit_char}
+use Rattle.std.specs.Prelude.{ℕ, suc, ◌-◌, ◌==◌, Bool, true, false, List, [], ◌∷◌, ◌++◌, map, flat_map, count_by, slice_get, codes, decimal, bytes_eq, Option, Some, None, option_map, option_and_then, unwrap_or, if◌then◌else◌}
 use Rattle.std.specs.List.{fold, position_from, join_with_byte}
 use Rattle.vg_model.specs.declared.kinds.Adjacency.{Adjacency}
 use Rattle.vg_model.specs.declared.kinds.DropError.{DropError}
@@ -9,12 +8,12 @@ use Rattle.vg_model.specs.declared.kinds.Kind.{Kind}
 use Rattle.vg_model.specs.declared.kinds.Kind.TheVariants as kinds
 use Rattle.vg_model.specs.declared.names.Mac.{Mac}
 use Rattle.vg_model.specs.Errors.{error_word}
+use Rattle.vg_model.specs.declared.fates.Leg.{Leg}
 use Rattle.vg_model.specs.Graph.{Graph, Node, kind_entry, slots}
 use Rattle.vg_report.specs.declared.reports.Report.{Report}
-
--- a byte as two hexadecimal digits
-abbrev pub pair_text : ℕ → List ℕ
-pair_text byte = digit_char (byte / 16) ∷ digit_char (byte % 16) ∷ []
+use Rattle.vg_report.specs.declared.reports.PacketLine.{PacketLine}
+use Rattle.vg_draw.specs.Prefixes.{Tables, tables_of, prefixes_text}
+pub use Rattle.vg_draw.specs.Prefixes.{pair_text}
 
 -- a link-layer address: six pairs parted by `:`
 abbrev pub mac_text : Mac → List ℕ
@@ -51,14 +50,15 @@ abbrev pub counted_text : List ℕ → Option ℕ → List ℕ
 counted_text word None = []
 counted_text word (Some count) = count_text word count
 
--- an error of a node: `\n`, `drop`, the error and its count
-abbrev pub drop_text : List ℕ → List ℕ × DropError × ℕ → List ℕ
-drop_text name entry = if bytes_eq entry.0 name then 92 ∷ 110 ∷ (codes "drop " ++ (error_word entry.1 ++ (32 ∷ decimal entry.2))) else []
-
--- what a report tells of a node: its visits, and its drops by error
+-- what a report tells of a node: its visits
 abbrev pub node_counts : Option Report → List ℕ → List ℕ
 node_counts None name = []
-node_counts (Some report) name = counted_text (codes "visits") (counted_in report.nodes name) ++ flat_map (drop_text name) report.errors
+node_counts (Some report) name = counted_text (codes "visits") (counted_in report.nodes name)
+
+-- a report tells that a node was never visited
+abbrev pub is_unvisited : Option Report → List ℕ → Bool
+is_unvisited None name = false
+is_unvisited (Some report) name = unwrap_or (option_map (λ visits. visits == 0) (counted_in report.nodes name)) false
 
 -- what a report tells of an interface: how many packets were transmitted on it
 abbrev pub interface_counts : Option Report → List ℕ → List ℕ
@@ -89,22 +89,45 @@ leaving number kinds.InterfaceTx = dashed number (codes "wire")
 leaving number (kinds.WorkerHandoff hash) = dashed number (codes "n1")
 leaving number kind = []
 
--- the line of a node of a name and a kind: `n3`, and as label its name, its kind, and what the report tells of it
+-- the kind of a node as a further line of its label, where its name is another word
+abbrev pub kind_text : List ℕ → Kind → List ℕ
+kind_text name kind = if bytes_eq (kind_word kind) name then [] else 92 ∷ 110 ∷ kind_word kind
+
+-- grey where nothing came: at a node that was never visited, and at an arc of a node that passed no packet on. A report counts by node, so both arcs
+-- of a node have one color
+abbrev pub grey_text : Bool → List ℕ
+grey_text false = []
+grey_text true = codes ", color=grey, fontcolor=grey"
+
+-- red where an interface is down
+abbrev pub down_text : Bool → List ℕ
+down_text up = if up then [] else codes ", color=red, fontcolor=red"
+
+-- the line of a node of a name and a kind: `n3`, and as label its name, its kind where that is another word, and its visits
 abbrev pub node_line : Option Report → ℕ → List ℕ → Kind → List ℕ
 node_line report number name kind =
-    codes "  " ++ (node_id number ++ (codes " [label=" ++ (34 ∷ (name ++ (92 ∷ 110 ∷ (kind_word kind ++ (node_counts report name
-    ++ (34 ∷ (codes "];" ++ (leaving number kind ++ 10 ∷ []))))))))))
-
--- the color of an arc: grey where its node passed no packet on. A report counts by node, so both arcs of a node have one color
-abbrev pub arc_color : Bool → List ℕ
-arc_color false = []
-arc_color true = codes ", color=grey, fontcolor=grey"
+    codes "  " ++ (node_id number ++ (codes " [label=" ++ (34 ∷ (name ++ (kind_text name kind ++ (node_counts report name
+    ++ (34 ∷ (grey_text (is_unvisited report name) ++ (codes "];" ++ (leaving number kind ++ 10 ∷ []))))))))))
 
 -- the line of an arc from a node of a name and a kind to another: as label it has the name of the slot
 abbrev pub arc_line : Option Report → ℕ → List ℕ → Kind → ℕ → ℕ → List ℕ
 arc_line report number name kind slot target =
     codes "  " ++ (node_id number ++ (codes " -> " ++ (node_id target ++ (codes " [label=" ++ (34 ∷ (unwrap_or (slice_get (slots kind) slot) []
-    ++ (34 ∷ (arc_color (carries_nothing report name) ++ (codes "];" ++ 10 ∷ [])))))))))
+    ++ (34 ∷ (grey_text (carries_nothing report name) ++ (codes "];" ++ 10 ∷ [])))))))))
+
+-- a red line from a node to the node that drops, with an error and how often the node dropped with it
+abbrev pub drop_text : ℕ → DropError → ℕ → List ℕ
+drop_text number error count =
+    codes "  " ++ (node_id number ++ (codes " -> n8 [label=" ++ (34 ∷ (error_word error ++ (32 ∷ (decimal count ++ (34 ∷ (codes ", color=red, fontcolor=red];" ++ 10 ∷ []))))))))
+
+-- the line of a report's entry, where it is the node's
+abbrev pub drop_line : ℕ → List ℕ → List ℕ × DropError × ℕ → List ℕ
+drop_line number name entry = if bytes_eq entry.0 name then drop_text number entry.1 entry.2 else []
+
+-- the lines of a node's drops, in the order of the report
+abbrev pub drop_lines : Option Report → ℕ → List ℕ → List ℕ
+drop_lines None number name = []
+drop_lines (Some report) number name = flat_map (drop_line number name) report.errors
 
 -- a line for each element, with its number from this one on
 abbrev pub numbered : {X : Type 0} → (ℕ → X → List ℕ) → ℕ → List X → List (List ℕ)
@@ -129,22 +152,41 @@ interface_label report interface =
     interface.name ++ (92 ∷ 110 ∷ (mac_text interface.mac ++ (92 ∷ 110 ∷ (codes "mtu " ++ (decimal interface.mtu
     ++ (state_text interface.up interface.filter ++ interface_counts report interface.name))))))
 
--- the line of an interface
+-- the line of an interface, red where it is down
 abbrev pub interface_line : Option Report → ℕ → Interface → List ℕ
 interface_line report number interface =
     codes "  " ++ (interface_id number ++ (codes " [shape=house, label=" ++ (34 ∷ (interface_label report interface
-    ++ (34 ∷ (codes "]; wire -> " ++ (interface_id number ++ (codes " [style=dashed];" ++ 10 ∷ []))))))))
+    ++ (34 ∷ (down_text interface.up ++ (codes "]; wire -> " ++ (interface_id number ++ (codes " [style=dashed];" ++ 10 ∷ [])))))))))
 
--- the line of a neighbor: its name and its address, and the interface that it is behind
-abbrev pub adjacency_line : ℕ → Adjacency → List ℕ
-adjacency_line number adjacency =
-    codes "  " ++ (adjacency_id number ++ (codes " [shape=ellipse, label=" ++ (34 ∷ (adjacency.name ++ (92 ∷ 110 ∷ (mac_text adjacency.mac
-    ++ (34 ∷ (codes "]; " ++ (interface_id adjacency.interface ++ (codes " -> " ++ (adjacency_id number ++ (codes " [style=dashed];" ++ 10 ∷ []))))))))))))
+-- the label of a neighbor: its name, its address, and the prefixes that are routed over it
+abbrev pub adjacency_label : (before now : Tables) → ℕ → Adjacency → List ℕ
+adjacency_label before now number adjacency = adjacency.name ++ (codes "<BR/>" ++ (mac_text adjacency.mac ++ prefixes_text number before now))
+
+-- the line of a neighbor: its label, and the interface that it is behind
+abbrev pub adjacency_line : (before now : Tables) → ℕ → Adjacency → List ℕ
+adjacency_line before now number adjacency =
+    codes "  " ++ (adjacency_id number ++ (codes " [shape=ellipse, label=<" ++ (adjacency_label before now number adjacency
+    ++ (codes ">]; " ++ (interface_id adjacency.interface ++ (codes " -> " ++ (adjacency_id number ++ (codes " [style=dashed];" ++ 10 ∷ []))))))))
+
+-- the packet began in this generation
+abbrev pub began_in : ℕ → PacketLine → Bool
+began_in generation packet = unwrap_or (option_map (λ (leg : Leg). leg.generation == generation) (slice_get packet.legs 0)) false
+
+-- how many packets began in a generation
+abbrev pub began_text : Option Report → ℕ → List ℕ
+began_text None generation = []
+began_text (Some report) generation = codes ", " ++ (decimal (count_by (began_in generation) report.packets) ++ codes " packets")
+
+-- the label of a drawing: the generation, from when on it was the graph, and how many packets began in it
+abbrev pub generation_label : Option Report → (generation from : ℕ) → List ℕ
+generation_label report generation from =
+    codes "generation " ++ (decimal generation ++ (codes ", from " ++ (decimal from ++ (codes " us" ++ began_text report generation))))
 
 -- the first lines
-abbrev pub head_text : ℕ → List ℕ
-head_text generation =
-    codes "digraph " ++ (34 ∷ (codes "generation " ++ (decimal generation ++ (34 ∷ (codes " {" ++ 10 ∷ (codes "  rankdir=LR;" ++ 10 ∷ (codes "  node [shape=box];" ++ 10 ∷ (codes "  wire [shape=point];" ++ 10 ∷ []))))))))
+abbrev pub head_text : Option Report → (generation from : ℕ) → List ℕ
+head_text report generation from =
+    codes "digraph " ++ (34 ∷ (codes "generation " ++ (decimal generation ++ (34 ∷ (codes " {" ++ 10 ∷ (codes "  label=" ++ (34 ∷ (generation_label report generation from
+    ++ (34 ∷ (codes ";" ++ 10 ∷ (codes "  labelloc=t;" ++ 10 ∷ (codes "  node [shape=box];" ++ 10 ∷ (codes "  wire [shape=point];" ++ 10 ∷ [])))))))))))))
 
 -- the lines of the nodes, by number
 abbrev pub node_lines : Option Report → List Node → List ℕ
@@ -154,15 +196,20 @@ node_lines report nodes = all_of (numbered (λ number node. node_line report num
 abbrev pub all_arc_lines : Option Report → List Node → List ℕ
 all_arc_lines report nodes = all_of (numbered (λ number node. arc_lines report number node.name node.kind node.arcs) 0 nodes)
 
+-- the lines of all drops, by node and error
+abbrev pub all_drop_lines : Option Report → List Node → List ℕ
+all_drop_lines report nodes = all_of (numbered (λ number node. drop_lines report number node.name) 0 nodes)
+
 -- the lines of the interfaces, and of the neighbors, by number
 abbrev pub interface_lines : Option Report → List Interface → List ℕ
 interface_lines report interfaces = all_of (numbered (interface_line report) 0 interfaces)
 
-abbrev pub adjacency_lines : List Adjacency → List ℕ
-adjacency_lines adjacencies = all_of (numbered adjacency_line 0 adjacencies)
+abbrev pub adjacency_lines : (before now : Tables) → List Adjacency → List ℕ
+adjacency_lines before now adjacencies = all_of (numbered (adjacency_line before now) 0 adjacencies)
 
--- the drawing of a generation's graph: a line for each node, by number, for each arc, by node and slot, and for each interface and neighbor
-abbrev pub drawing : Option Report → ℕ → Graph → List ℕ
-drawing report generation g =
-    head_text generation ++ (node_lines report g.nodes ++ (all_arc_lines report g.nodes ++ (interface_lines report g.interfaces
-    ++ (adjacency_lines g.adjacencies ++ 125 ∷ 10 ∷ []))))
+-- the drawing of a generation's graph that is its graph from this time on, behind the routes of the generation before: a line for each node, by number, for each arc, by node
+-- and slot, for each error of each node, and for each interface and neighbor
+abbrev pub drawing : Option Report → (generation from : ℕ) → (before : Tables) → Graph → List ℕ
+drawing report generation from before g =
+    head_text report generation from ++ (node_lines report g.nodes ++ (all_arc_lines report g.nodes ++ (all_drop_lines report g.nodes ++ (interface_lines report g.interfaces
+    ++ (adjacency_lines before (tables_of g) g.adjacencies ++ 125 ∷ 10 ∷ [])))))

@@ -1,2 +1,3 @@
+pub mod Prefixes
 pub mod Drawing
 pub mod Once

@@ -1,12 +1,12 @@
 //! What a report counted, by the names of nodes and interfaces.
-ghost use Rattle.std.specs.Prelude.{◌≡◌, ◌<◌, ◌++◌, ℕ, List, bytes_eq, length, IfSome, OnOk, Some};
+ghost use Rattle.std.specs.Prelude.{◌≡◌, ◌+◌, ◌<◌, ◌≤◌, ◌^◌, ◌++◌, ℕ, List, Some, bytes_eq, count_by, length, option_map, slice_get, IfSome, OnOk, if◌then◌else◌};
 ghost use Rattle.std.specs.List.{position_from};
-ghost use Rattle.vg_draw.specs.Drawing.{counted_in, less as less_of, passed_on as passed_on_of, carries_nothing as carries_nothing_of, counted_text, drop_text, node_counts, interface_counts};
+ghost use Rattle.vg_draw.specs.Drawing.{counted_in, less as less_of, passed_on as passed_on_of, carries_nothing as carries_nothing_of, is_unvisited as is_unvisited_by, began_in, began_text, counted_text, node_counts, interface_counts};
 
 use crate::words::{put, put_count, put_decimal};
 use std::alloc::AllocError;
 use vg_model::{DropError, Name};
-use vg_report::Report;
+use vg_report::{PacketLines, Report};
 
 // The place of the first entry of a name.
 fn place_of(entries: &[(Name, u64)], name: &Name) -> Option<usize>
@@ -71,35 +71,7 @@ fn put_counted(out: &mut Vec<u8>, word: &[u8], count: Option<u64>) -> Result<(),
     }
 }
 
-// Appends an error and its count, where it is the node's.
-fn put_drop(
-    out: &mut Vec<u8>,
-    name: &Name,
-    entry: &(Name, DropError, u64),
-) -> Result<(), AllocError>
-    ensures { OnOk result (out.new.items ≡ out.old.items ++ drop_text name.now entry.now) }
-{
-    if entry.0 != *name {
-        return Ok(());
-    }
-    put(out, b"\\ndrop ")?;
-    put(out, entry.1.word().as_bytes())?;
-    put(out, b" ")?;
-    put_decimal(out, entry.2)
-}
-
-// Appends what a report tells of a node.
-fn put_told(out: &mut Vec<u8>, report: &Report, name: &Name) -> Result<(), AllocError>
-    ensures { OnOk result (out.new.items ≡ out.old.items ++ node_counts (Some report.now) name.now) }
-{
-    put_counted(out, b"visits", counted(report.nodes.as_slice(), name))?;
-    for entry in report.errors.as_slice() {
-        put_drop(out, name, entry)?;
-    }
-    Ok(())
-}
-
-/// Appends what a report counts of a node: its visits, and its drops by error.
+/// Appends what a report counts of a node: its visits.
 pub fn put_node_counts(
     out: &mut Vec<u8>,
     report: &Option<Report>,
@@ -109,7 +81,20 @@ pub fn put_node_counts(
 {
     match report {
         None => Ok(()),
-        Some(report) => put_told(out, report, name),
+        Some(report) => put_counted(out, b"visits", counted(report.nodes.as_slice(), name)),
+    }
+}
+
+/// Whether by a report a node was never visited.
+pub fn is_unvisited(report: &Option<Report>, name: &Name) -> bool
+    ensures { result ≡ is_unvisited_by report.now name.now }
+{
+    match report {
+        None => false,
+        Some(report) => match counted(report.nodes.as_slice(), name) {
+            None => false,
+            Some(visits) => visits == 0,
+        },
     }
 }
 
@@ -124,5 +109,55 @@ pub fn put_interface_counts(
     match report {
         None => Ok(()),
         Some(report) => { put_counted(out, b"tx", counted(report.interfaces.as_slice(), name)) }
+    }
+}
+
+// Whether a packet began in a generation: its first leg has it.
+fn began(packets: &PacketLines, number: usize, generation: u32) -> bool
+    requires { number < length packets.now }
+    ensures { option_map (began_in generation) (slice_get packets.now number) ≡ Some result }
+{
+    let line = packets.get(number);
+    match line.legs.as_slice().first() {
+        Some(leg) => leg.generation == generation,
+        None => false,
+    }
+}
+
+// One more where there is one.
+fn with_one(count: usize, more: bool) -> usize
+    requires { count + 1 < 2 ^ 64 }
+    ensures sum { result ≡ (if more then count + 1 else count) }
+    ensures few { result ≤ count + 1 }
+{
+    if more { count + 1 } else { count }
+}
+
+// How many packets began in a generation.
+fn count_began(packets: &PacketLines, generation: u32) -> usize
+    ensures { result ≡ count_by (began_in generation) packets.now }
+{
+    let mut count = 0;
+    for number in 0..packets.len() {
+        count = with_one(count, began(packets, number, generation));
+    }
+    count
+}
+
+/// Appends how many packets of a report began in a generation.
+pub fn put_began(
+    out: &mut Vec<u8>,
+    report: &Option<Report>,
+    generation: u32,
+) -> Result<(), AllocError>
+    ensures { OnOk result (out.new.items ≡ out.old.items ++ began_text report.now generation) }
+{
+    match report {
+        None => Ok(()),
+        Some(report) => {
+            put(out, b", ")?;
+            put_decimal(out, count_began(&report.packets, generation) as u64)?;
+            put(out, b" packets")
+        }
     }
 }

@@ -1,9 +1,13 @@
 //! The drawing of a graph.
 ghost use Rattle.std.specs.Prelude.{◌≡◌, ◌<◌, ◌++◌, OnOk, Some, length};
-ghost use Rattle.vg_model.specs.Graph.{kind_at, next_nodes};
-ghost use Rattle.vg_draw.specs.Drawing.{arc_lines, node_lines, all_arc_lines, interface_lines, adjacency_lines, drawing};
+ghost use Rattle.vg_model.specs.Graph.{kind_at, next_nodes, with_routes};
+ghost use Rattle.vg_draw.specs.Prefixes.{seen};
+ghost use Rattle.vg_draw.specs.Drawing.{arc_lines, node_lines, all_arc_lines, all_drop_lines, interface_lines, adjacency_lines, drawing};
 
-use crate::lines::{put_adjacency_line, put_arc_line, put_head, put_interface_line, put_node_line};
+use crate::lines::{
+    put_adjacency_line, put_arc_line, put_drop_lines, put_head, put_interface_line, put_node_line,
+};
+use crate::prefixes::Routes;
 use crate::words::put;
 use std::alloc::AllocError;
 use vg_graph::Graph;
@@ -52,6 +56,15 @@ fn put_arcs(out: &mut Vec<u8>, report: &Option<Report>, graph: &Graph) -> Result
     Ok(())
 }
 
+fn put_drops(out: &mut Vec<u8>, report: &Option<Report>, graph: &Graph) -> Result<(), AllocError>
+    ensures { OnOk result (out.new.items ≡ out.old.items ++ all_drop_lines report.now graph.now.nodes) }
+{
+    for number in 0..graph.nodes() {
+        put_drop_lines(out, report, number, graph.node_name(number))?;
+    }
+    Ok(())
+}
+
 fn put_interfaces(
     out: &mut Vec<u8>,
     report: &Option<Report>,
@@ -65,33 +78,49 @@ fn put_interfaces(
     Ok(())
 }
 
-fn put_adjacencies(out: &mut Vec<u8>, graph: &Graph) -> Result<(), AllocError>
-    ensures { OnOk result (out.new.items ≡ out.old.items ++ adjacency_lines graph.now.adjacencies) }
+fn put_adjacencies(
+    out: &mut Vec<u8>,
+    graph: &Graph,
+    before: Routes<'_>,
+    routes: Routes<'_>,
+) -> Result<(), AllocError>
+    ensures { OnOk result (out.new.items ≡ out.old.items ++ adjacency_lines (seen before.entry) (seen routes.entry) graph.now.adjacencies) }
 {
     for number in 0..graph.adjacencies() {
-        put_adjacency_line(out, number, graph.adjacency_at(number))?;
+        put_adjacency_line(out, before, routes, number, graph.adjacency_at(number))?;
     }
     Ok(())
 }
 
-/// Appends the drawing of a generation's graph, in the DOT language: a line for each node with its name and its kind, for each arc with
-/// the name of its slot, and for each interface and each neighbor. With a report of a run the lines of the nodes have the visits and the
-/// drops by error too, those of the interfaces what was transmitted, and the arcs of nodes that passed no packet on are grey. A report
-/// counts by node, so both arcs of a node have one color. Of routes a drawing has no line: the script says which lead to a neighbor.
+/// Appends the drawing of a generation's graph and its routes, in the DOT language, under a label with the generation's number and the
+/// time from which on it was the graph, in microseconds from the first packet: a line for each node with its name, and its kind where
+/// that is another word, for each arc with the name of its slot, and for each interface and each neighbor. A neighbor has the prefixes
+/// that are routed over it, those of IPv4 first: eight, and how many more there are. In bold are those that no route led over it with
+/// in the generation before, whose routes are given too; for the first generation give its own. An interface that is down is red.
+///
+/// With a report of a run the label has how many packets began in the generation, the lines of the nodes have the visits, and those of
+/// the interfaces what was transmitted. Each error that a node dropped with is a red line to the node that drops, with its count. A
+/// node that was never visited and the arcs of a node that passed no packet on are grey. A report counts by node, so both arcs of a
+/// node have one color.
 ///
 /// The report counts over all generations, and its counts are found by name. The only error is want of memory.
 pub fn draw(
     out: &mut Vec<u8>,
     report: &Option<Report>,
     generation: u32,
+    from: u64,
+    before: Routes<'_>,
     graph: &Graph,
+    routes: Routes<'_>,
 ) -> Result<(), AllocError>
-    ensures { OnOk result (out.new.items ≡ out.old.items ++ drawing report.now generation graph.now) }
+    ensures { OnOk result (out.new.items ≡ out.old.items
+        ++ drawing report.now generation from (seen before.entry) (with_routes graph.now routes.entry.ip4.now routes.entry.ip6.now)) }
 {
-    put_head(out, generation)?;
+    put_head(out, report, generation, from)?;
     put_nodes(out, report, graph)?;
     put_arcs(out, report, graph)?;
+    put_drops(out, report, graph)?;
     put_interfaces(out, report, graph)?;
-    put_adjacencies(out, graph)?;
+    put_adjacencies(out, graph, before, routes)?;
     put(out, b"}\n")
 }

@@ -1,12 +1,14 @@
 //! The drawing of a generation's graph in the DOT language of Graphviz, with what a report counted.
 //!
-//! In which order to read: `drawing`, `lines` with `words`, `counts`; then `laws`.
+//! In which order to read: `drawing`, `lines` with `words`, `counts`, `prefixes`; then `laws`.
 #![tactic(auto)]
 
 mod counts;
 pub mod drawing;
 pub mod laws;
 mod lines;
+pub mod prefixes;
 mod words;
 
 pub use drawing::draw;
+pub use prefixes::Routes;

@@ -1,23 +1,51 @@
 //! The lines of a drawing. Each function appends to one growing buffer; where memory runs out it stops.
-ghost use Rattle.std.specs.Prelude.{◌≡◌, ◌<◌, ◌++◌, OnOk, codes, length};
+ghost use Rattle.std.specs.Prelude.{◌≡◌, ◌<◌, ◌++◌, OnOk, Some, codes, length};
 ghost use Rattle.vg_model.specs.Graph.{slots};
-ghost use Rattle.vg_draw.specs.Drawing.{id, dashed, leaving, node_line, arc_color, arc_line, state_text, interface_label, interface_line, adjacency_line, head_text};
+ghost use Rattle.vg_draw.specs.Prefixes.{seen};
+ghost use Rattle.vg_draw.specs.Drawing.{id, dashed, leaving, kind_text, grey_text, down_text, node_line, arc_line, drop_text, drop_line, drop_lines, state_text, interface_label, interface_line, adjacency_label, adjacency_line, generation_label, head_text};
 
-use crate::counts::{carries_nothing, put_interface_counts, put_node_counts};
+use crate::counts::{
+    carries_nothing, is_unvisited, put_began, put_interface_counts, put_node_counts,
+};
+use crate::prefixes::{Routes, put_prefixes};
 use crate::words::{put, put_decimal, put_id, put_kind, put_mac, slot_name};
 use std::alloc::AllocError;
-use vg_model::{Adjacency, Interface, Kind, Name};
+use vg_model::{Adjacency, DropError, Interface, Kind, Name};
 use vg_report::Report;
 
+// Appends the label of a drawing: the generation, from when on it was the graph, and how many packets began in it.
+fn put_generation_label(
+    out: &mut Vec<u8>,
+    report: &Option<Report>,
+    generation: u32,
+    from: u64,
+) -> Result<(), AllocError>
+    ensures { OnOk result (out.new.items ≡ out.old.items ++ generation_label report.now generation from) }
+{
+    put(out, b"generation ")?;
+    put_decimal(out, u64::from(generation))?;
+    put(out, b", from ")?;
+    put_decimal(out, from)?;
+    put(out, b" us")?;
+    put_began(out, report, generation)
+}
+
 /// Appends the first lines.
-pub fn put_head(out: &mut Vec<u8>, generation: u32) -> Result<(), AllocError>
-    ensures { OnOk result (out.new.items ≡ out.old.items ++ head_text generation) }
+pub fn put_head(
+    out: &mut Vec<u8>,
+    report: &Option<Report>,
+    generation: u32,
+    from: u64,
+) -> Result<(), AllocError>
+    ensures { OnOk result (out.new.items ≡ out.old.items ++ head_text report.now generation from) }
 {
     put(out, b"digraph \"generation ")?;
     put_decimal(out, u64::from(generation))?;
+    put(out, b"\" {\n  label=\"")?;
+    put_generation_label(out, report, generation, from)?;
     put(
         out,
-        b"\" {\n  rankdir=LR;\n  node [shape=box];\n  wire [shape=point];\n",
+        b"\";\n  labelloc=t;\n  node [shape=box];\n  wire [shape=point];\n",
     )
 }
 
@@ -52,6 +80,30 @@ fn put_begin(out: &mut Vec<u8>, letter: u8, number: u16, shape: &[u8]) -> Result
     put(out, shape)
 }
 
+// Appends the color grey where nothing came. A report counts by node, so both arcs of a node have one color.
+fn put_grey(out: &mut Vec<u8>, nothing: bool) -> Result<(), AllocError>
+    ensures { OnOk result (out.new.items ≡ out.old.items ++ grey_text nothing) }
+{
+    if nothing {
+        put(out, b", color=grey, fontcolor=grey")
+    } else {
+        Ok(())
+    }
+}
+
+// Appends the kind of a node as a further line of its label, where its name is another word.
+fn put_kind_line(out: &mut Vec<u8>, name: &Name, kind: Kind) -> Result<(), AllocError>
+    ensures { OnOk result (out.new.items ≡ out.old.items ++ kind_text name.now kind) }
+{
+    let mut word = Vec::new(*out.allocator());
+    put_kind(&mut word, kind)?;
+    if word.as_slice() == name.bytes() {
+        return Ok(());
+    }
+    put(out, b"\\n")?;
+    put(out, word.as_slice())
+}
+
 /// Appends the line of a node.
 pub fn put_node_line(
     out: &mut Vec<u8>,
@@ -64,23 +116,13 @@ pub fn put_node_line(
 {
     put_begin(out, b'n', number, b" [label=\"")?;
     put(out, name.bytes())?;
-    put(out, b"\\n")?;
-    put_kind(out, kind)?;
+    put_kind_line(out, name, kind)?;
     put_node_counts(out, report, name)?;
-    put(out, b"\"];")?;
+    put(out, b"\"")?;
+    put_grey(out, is_unvisited(report, name))?;
+    put(out, b"];")?;
     put_leaving(out, number, kind)?;
     put(out, b"\n")
-}
-
-// Appends the color of an arc: grey where its node passed nothing on. A report counts by node, so both arcs of a node have one color.
-fn put_color(out: &mut Vec<u8>, nothing: bool) -> Result<(), AllocError>
-    ensures { OnOk result (out.new.items ≡ out.old.items ++ arc_color nothing) }
-{
-    if nothing {
-        put(out, b", color=grey, fontcolor=grey")
-    } else {
-        Ok(())
-    }
 }
 
 /// Appends the line of an arc from a slot of a node to a node.
@@ -101,8 +143,70 @@ pub fn put_arc_line(
     put(out, b" [label=\"")?;
     put(out, slot_name(kind, slot).as_bytes())?;
     put(out, b"\"")?;
-    put_color(out, carries_nothing(report, name))?;
+    put_grey(out, carries_nothing(report, name))?;
     put(out, b"];\n")
+}
+
+// Appends a red line from a node to the node that drops, with an error and its count.
+fn put_drop_text(
+    out: &mut Vec<u8>,
+    number: u16,
+    error: DropError,
+    count: u64,
+) -> Result<(), AllocError>
+    ensures { OnOk result (out.new.items ≡ out.old.items ++ drop_text number error count) }
+{
+    put_begin(out, b'n', number, b" -> n8 [label=\"")?;
+    put(out, error.word().as_bytes())?;
+    put(out, b" ")?;
+    put_decimal(out, count)?;
+    put(out, b"\", color=red, fontcolor=red];\n")
+}
+
+// Appends the line of a drop, where it is the node's.
+fn put_drop(
+    out: &mut Vec<u8>,
+    number: u16,
+    name: &Name,
+    entry: &(Name, DropError, u64),
+) -> Result<(), AllocError>
+    ensures { OnOk result (out.new.items ≡ out.old.items ++ drop_line number name.now entry.now) }
+{
+    if entry.0 == *name {
+        put_drop_text(out, number, entry.1, entry.2)
+    } else {
+        Ok(())
+    }
+}
+
+// Appends the lines of a node's drops.
+fn put_report_drops(
+    out: &mut Vec<u8>,
+    report: &Report,
+    number: u16,
+    name: &Name,
+) -> Result<(), AllocError>
+    ensures { OnOk result (out.new.items ≡ out.old.items ++ drop_lines (Some report.now) number name.now) }
+{
+    for entry in report.errors.as_slice() {
+        put_drop(out, number, name, entry)?;
+    }
+    Ok(())
+}
+
+/// Appends the lines of a node's drops, in the order of the report.
+pub fn put_drop_lines(
+    out: &mut Vec<u8>,
+    report: &Option<Report>,
+    number: u16,
+    name: &Name,
+) -> Result<(), AllocError>
+    ensures { OnOk result (out.new.items ≡ out.old.items ++ drop_lines report.now number name.now) }
+{
+    match report {
+        None => Ok(()),
+        Some(report) => put_report_drops(out, report, number, name),
+    }
 }
 
 // Appends whether an interface is up, and whether it filters.
@@ -130,7 +234,18 @@ fn put_interface_label(
     put_interface_counts(out, report, &interface.name)
 }
 
-/// Appends the line of an interface.
+// Appends the color red where an interface is down.
+fn put_down(out: &mut Vec<u8>, up: bool) -> Result<(), AllocError>
+    ensures { OnOk result (out.new.items ≡ out.old.items ++ down_text up) }
+{
+    if up {
+        Ok(())
+    } else {
+        put(out, b", color=red, fontcolor=red")
+    }
+}
+
+/// Appends the line of an interface, red where it is down.
 pub fn put_interface_line(
     out: &mut Vec<u8>,
     report: &Option<Report>,
@@ -141,24 +256,42 @@ pub fn put_interface_line(
 {
     put_begin(out, b'i', number, b" [shape=house, label=\"")?;
     put_interface_label(out, report, interface)?;
-    put(out, b"\"]; wire -> ")?;
+    put(out, b"\"")?;
+    put_down(out, interface.up)?;
+    put(out, b"]; wire -> ")?;
     put_id(out, b'i', number)?;
     put(out, b" [style=dashed];\n")
+}
+
+// Appends the label of a neighbor: its name, its address, and the prefixes that are routed over it.
+fn put_adjacency_label(
+    out: &mut Vec<u8>,
+    before: Routes<'_>,
+    routes: Routes<'_>,
+    number: u16,
+    adjacency: &Adjacency,
+) -> Result<(), AllocError>
+    ensures { OnOk result (out.new.items ≡ out.old.items ++ adjacency_label (seen before.entry) (seen routes.entry) number adjacency.now) }
+{
+    put(out, adjacency.name.bytes())?;
+    put(out, b"<BR/>")?;
+    put_mac(out, adjacency.mac)?;
+    put_prefixes(out, number, before, routes)
 }
 
 /// Appends the line of a neighbor.
 pub fn put_adjacency_line(
     out: &mut Vec<u8>,
+    before: Routes<'_>,
+    routes: Routes<'_>,
     number: u16,
     adjacency: &Adjacency,
 ) -> Result<(), AllocError>
-    ensures { OnOk result (out.new.items ≡ out.old.items ++ adjacency_line number adjacency.now) }
+    ensures { OnOk result (out.new.items ≡ out.old.items ++ adjacency_line (seen before.entry) (seen routes.entry) number adjacency.now) }
 {
-    put_begin(out, b'a', number, b" [shape=ellipse, label=\"")?;
-    put(out, adjacency.name.bytes())?;
-    put(out, b"\\n")?;
-    put_mac(out, adjacency.mac)?;
-    put(out, b"\"]; ")?;
+    put_begin(out, b'a', number, b" [shape=ellipse, label=<")?;
+    put_adjacency_label(out, before, routes, number, adjacency)?;
+    put(out, b">]; ")?;
     put_id(out, b'i', adjacency.interface)?;
     put(out, b" -> ")?;
     put_id(out, b'a', number)?;

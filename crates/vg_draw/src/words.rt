@@ -23,7 +23,8 @@ pub fn put_decimal(out: &mut Vec<u8>, number: u64) -> Result<(), AllocError>
     put(out, Buffer::new().format(number).as_bytes())
 }
 
-fn hex_digit(value: u8) -> u8
+/// A hexadecimal digit.
+pub fn hex_digit(value: u8) -> u8
     requires { value < 16 }
     ensures { result ≡ digit_char value }
 {
@@ -34,8 +35,8 @@ fn hex_digit(value: u8) -> u8
     }
 }
 
-// Appends a byte as two hexadecimal digits.
-fn put_pair(out: &mut Vec<u8>, byte: u8) -> Result<(), AllocError>
+/// Appends a byte as two hexadecimal digits.
+pub fn put_pair(out: &mut Vec<u8>, byte: u8) -> Result<(), AllocError>
     ensures { OnOk result (out.new.items ≡ out.old.items ++ pair_text byte) }
 {
     put(out, &[hex_digit(byte / 16), hex_digit(byte % 16)])

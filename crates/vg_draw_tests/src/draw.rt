@@ -3,13 +3,26 @@
 use std::alloc::Global;
 use std::process::Abort;
 use std::test::Fail;
-use vg_draw::draw;
 use vg_draw::laws::{arcs_stand_once, nodes_stand_once};
+use vg_draw::{Routes, draw};
 use vg_graph::Graph;
 use vg_model::{Edit, Kind, Name};
-use vg_plan::{Generations, Plan};
+use vg_plan::{Generations, Master, Plan};
 use vg_report::{Report, read_report};
 use vg_script::parse_script;
+
+/// No routes.
+fn none() -> Routes<'static> {
+    Routes { ip4: &[], ip6: &[] }
+}
+
+/// The routes of a graph.
+fn routes_of(master: &Master) -> Routes<'_> {
+    Routes {
+        ip4: master.fib().routes(),
+        ip6: master.fib6().routes(),
+    }
+}
 
 #[test]
 fn the_start_graph_is_drawn(rt: HostRuntime) -> Result<(), Fail> {
@@ -17,20 +30,21 @@ fn the_start_graph_is_drawn(rt: HostRuntime) -> Result<(), Fail> {
     arcs_stand_once();
     let graph = Graph::start(rt.alloc())?;
     let mut out = Vec::new(rt.alloc());
-    draw(&mut out, &None, 0, &graph)?;
+    draw(&mut out, &None, 0, 0, none(), &graph, none())?;
     let text = "digraph \"generation 0\" {
-  rankdir=LR;
+  label=\"generation 0, from 0 us\";
+  labelloc=t;
   node [shape=box];
   wire [shape=point];
-  n0 [label=\"pg-input\\npg-input\"];
-  n1 [label=\"handoff-dequeue\\nhandoff-dequeue\"];
-  n2 [label=\"ethernet-input\\nethernet-input\"];
-  n3 [label=\"ip4-input\\nip4-input\"];
-  n4 [label=\"ip4-lookup\\nip4-lookup\"];
-  n5 [label=\"ip4-rewrite\\nip4-rewrite\"];
-  n6 [label=\"interface-output\\ninterface-output\"];
-  n7 [label=\"interface-tx\\ninterface-tx\"]; n7 -> wire [style=dashed];
-  n8 [label=\"error-drop\\nerror-drop\"];
+  n0 [label=\"pg-input\"];
+  n1 [label=\"handoff-dequeue\"];
+  n2 [label=\"ethernet-input\"];
+  n3 [label=\"ip4-input\"];
+  n4 [label=\"ip4-lookup\"];
+  n5 [label=\"ip4-rewrite\"];
+  n6 [label=\"interface-output\"];
+  n7 [label=\"interface-tx\"]; n7 -> wire [style=dashed];
+  n8 [label=\"error-drop\"];
   n0 -> n2 [label=\"out\"];
   n2 -> n3 [label=\"ip4\"];
   n3 -> n4 [label=\"lookup\"];
@@ -54,8 +68,10 @@ fn drawn(
     let script = parse_script(alloc, script).expect(rt, "a script");
     let plan = Plan::new(alloc, script).expect(rt, "a plan");
     let generations = Generations::of(alloc, &plan).expect(rt, "memory");
+    let master = generations.master();
+    let routes = routes_of(master);
     let mut out = Vec::new(alloc);
-    draw(&mut out, report, 0, generations.master().graph())?;
+    draw(&mut out, report, 0, 0, routes, master.graph(), routes)?;
     Ok(out)
 }
 
@@ -127,16 +143,22 @@ fn both_arcs_of_a_node_have_one_color(rt: HostRuntime) -> Result<(), Fail> {
     let alloc = rt.alloc();
     let report = read_report(alloc, COUNTED).map_err(|_| "a faulty report")?;
     let text = drawn(&rt, alloc, TAGGED, &Some(report))?;
-    let nodes = "  n9 [label=\"cut\\ndot1q-match-100\\nvisits 5\\ndrop bad-length 2\"];
-  n10 [label=\"both\\nethernet-dual\\nvisits 3\\ndrop unknown-type 3\"];
+    let nodes = "  n9 [label=\"cut\\ndot1q-match-100\\nvisits 5\"];
+  n10 [label=\"both\\nethernet-dual\\nvisits 3\"];
+  n11 [label=\"cross\\nxconnect-3\\nvisits 0\", color=grey, fontcolor=grey];
 ";
     let arcs = "  n9 -> n10 [label=\"match\"];
   n9 -> n2 [label=\"else\"];
   n10 -> n3 [label=\"ip4\", color=grey, fontcolor=grey];
   n10 -> n11 [label=\"ip6\", color=grey, fontcolor=grey];
 ";
+    let drops = "  n9 -> n8 [label=\"bad-length 2\", color=red, fontcolor=red];
+  n10 -> n8 [label=\"unknown-type 3\", color=red, fontcolor=red];
+  i0 [";
     assert!(rt; has(&text, nodes));
     assert!(rt; has(&text, arcs));
+    assert!(rt; has(&text, drops));
+    assert!(rt; has(&text, "  label=\"generation 0, from 0 us, 0 packets\";\n"));
     Ok(())
 }
 
@@ -149,40 +171,59 @@ fn a_kind_is_drawn_by_its_name_where_scripts_have_no_word(rt: HostRuntime) -> Re
         kind: Kind::CrossConnect(200),
     })?;
     let mut out = Vec::new(rt.alloc());
-    draw(&mut out, &None, 0, &graph)?;
+    draw(&mut out, &None, 0, 0, none(), &graph, none())?;
     assert!(rt; has(&out, "  n9 [label=\"far\\nxconnect-200\"];\n"));
     assert!(rt; has(&out, "  n9 -> n8 [label=\"out\"];\n"));
     Ok(())
 }
 
-/// Three neighbors, and routes over one and over several of them.
-const ROUTED: &[u8] = b"adjacency a interface pg0 dst 02:00:00:00:00:0a
+/// Three neighbors, routes over one and over several of them, and an interface that is down.
+const ROUTED: &[u8] = b"interface pg0 mac 02:fe:00:00:00:00 mtu 9000 down
+adjacency a interface pg0 dst 02:00:00:00:00:0a
 adjacency b interface pg0 dst 02:00:00:00:00:0b
 adjacency c interface pg0 dst 02:00:00:00:00:0c
 route 10.1.0.0/16 via a
-route 10.2.0.0/16 via a,b,c
-route6 2001:db8::/32 via c,c,b
-route6 ::/0 local
+route 10.2.0.0/16 via a,b
+route 10.3.0.0/16 drop
+route6 2001:db8::/32 via b,b
+route6 2001:db8:0:0:1::abcd/128 via b
+route6 ::/0 via b
+route6 fe80::/10 local
 ";
 
 #[test]
-fn a_neighbor_stands_once_whichever_routes_lead_over_it(rt: HostRuntime) -> Result<(), Fail> {
-    let alloc = rt.alloc();
-    let text = drawn(&rt, alloc, ROUTED, &None)?;
+fn a_neighbor_has_the_prefixes_that_are_routed_over_it(rt: HostRuntime) -> Result<(), Fail> {
+    let text = drawn(&rt, rt.alloc(), ROUTED, &None)?;
     let end = "
-  i0 [shape=house, label=\"pg0\\n02:fe:00:00:00:00\\nmtu 9000 up\"]; wire -> i0 [style=dashed];
-  a0 [shape=ellipse, label=\"a\\n02:00:00:00:00:0a\"]; i0 -> a0 [style=dashed];
-  a1 [shape=ellipse, label=\"b\\n02:00:00:00:00:0b\"]; i0 -> a1 [style=dashed];
-  a2 [shape=ellipse, label=\"c\\n02:00:00:00:00:0c\"]; i0 -> a2 [style=dashed];
+  i0 [shape=house, label=\"pg0\\n02:fe:00:00:00:00\\nmtu 9000 down\", color=red, fontcolor=red]; wire -> i0 [style=dashed];
+  a0 [shape=ellipse, label=<a<BR/>02:00:00:00:00:0a<BR/>10.1.0.0/16<BR/>10.2.0.0/16>]; i0 -> a0 [style=dashed];
+  a1 [shape=ellipse, label=<b<BR/>02:00:00:00:00:0b<BR/>10.2.0.0/16<BR/>2001:db8::/32<BR/>2001:db8:0:0:1:0:0:abcd/128<BR/>::/0>]; i0 -> a1 [style=dashed];
+  a2 [shape=ellipse, label=<c<BR/>02:00:00:00:00:0c>]; i0 -> a2 [style=dashed];
 }
 ";
     assert!(rt; text.ends_with(end.as_bytes()));
-    // The drawing of the neighbors alone is the same.
-    let begin = b"adjacency a interface pg0 dst 02:00:00:00:00:0a\n".len() * 3;
-    let neighbors = ROUTED.get(..begin).ok_or("a short script")?;
-    assert_eq!(rt;
-        drawn(&rt, alloc, neighbors, &None)?.as_slice(),
-        text.as_slice()
-    );
+    Ok(())
+}
+
+/// Ten routes over one neighbor.
+const MANY: &[u8] = b"adjacency a interface pg0 dst 02:00:00:00:00:0a
+route 10.1.0.0/16 via a
+route 10.2.0.0/16 via a
+route 10.3.0.0/16 via a
+route 10.4.0.0/16 via a
+route 10.5.0.0/16 via a
+route 10.6.0.0/16 via a
+route 10.7.0.0/16 via a
+route6 2001:db8:1::/48 via a
+route6 2001:db8:2::/48 via a
+route6 2001:db8:3::/48 via a
+";
+
+#[test]
+fn eight_prefixes_stand_at_a_neighbor(rt: HostRuntime) -> Result<(), Fail> {
+    let text = drawn(&rt, rt.alloc(), MANY, &None)?;
+    let end =
+        "<BR/>10.7.0.0/16<BR/>2001:db8:1::/48<BR/>and 2 more>]; i0 -> a0 [style=dashed];\n}\n";
+    assert!(rt; text.ends_with(end.as_bytes()));
     Ok(())
 }

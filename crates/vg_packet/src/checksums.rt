@@ -83,8 +83,8 @@ fn updated_checksum(checksum: u16, before: u16, after: u16) -> u16
     !folded(u32::from(!checksum) + u32::from(!before) + u32::from(after))
 }
 
-/// Whether all 16 bits of the sum are set once its carries are brought back in: whether it is a multiple of 0xffff other than 0. To bring
-/// a carry back in takes 0xffff away, and leaves 0 of nothing but 0.
+/// Whether all 16 bits of the sum are set once its carries are brought back in. Bringing a carry back in takes 0xffff away and leaves 0
+/// of 0 alone, so these are the multiples of 0xffff but 0.
 #[inline]
 fn has_all_bits(sum: u64) -> bool
     ensures { IsTrue result ↔ ((sum ≢ 0) × (sum % 65535 ≡ 0)) }

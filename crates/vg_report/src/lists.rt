@@ -145,13 +145,6 @@ impl ErrorCounts {
 }
 
 impl PacketLines {
-    /// No packets.
-    pub fn new(alloc: Global) -> PacketLines
-        ensures { result ≡ [] }
-    {
-        PacketLines::from_vec(Vec::new(alloc))
-    }
-
     /// The list of these packets.
     pub fn from_vec(packets: Vec<PacketLine>) -> PacketLines
         ensures { result ≡ packets.items }

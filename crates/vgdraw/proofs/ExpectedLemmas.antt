@@ -22,6 +22,7 @@ use Rattle.vgdraw.specs.Drawn.{IsWithin}
 use Rattle.vgdraw.specs.Dues.{IsDueFor}
 use Rattle.vgdraw.specs.Expected.{IsLoadable, IsWithinStatus, IsReportStatus, IsNamedStatus, IsScriptStatus, IsExpected}
 use Rattle.vgdraw.specs.Run.{Call, Makes, MakesAt, IsScriptRefusal, IsScriptFault, IsReportFault, IsReportOf, IsDrawn, IsRefused, OnRefusal, status_of, largest_report}
+use Rattle.vgdraw.proofs.RunLemmas.{graphs_made}
 
 -- ---- files that the folder tells
 
@@ -132,8 +133,9 @@ beyond_expected count which status h (inr e) = sym e.0
 -- drawings
 drawn_expected : (call : Call) (text : List ℕ) (status : ℕ) → IsDrawn call text → IsExpected call status → 0 ≡ status
 drawn_expected call text status d e =
-    within_expected (length d.graphs) d.ask.which status d.within
-    (past_report call (length d.graphs) d.ask.which d.ask.report d.report status d.is_report (past_script call d.ask d.graphs status d.is_ask d.made e))
+    within_expected (length d.plan.graphs) d.ask.which status d.within
+    (past_report call (length d.plan.graphs) d.ask.which d.ask.report d.report status d.is_report
+    (past_script call d.ask d.plan.graphs status d.is_ask (graphs_made call.files d.ask.script d.plan d.made) e))
 
 -- a load of the script that failed
 script_load_expected : (call : Call) (ask : Ask) (status : ℕ) → asked call.words ≡ Some ask

@@ -8,6 +8,7 @@ use Rattle.vg_script.specs.declared.errors.ScriptError.{ScriptError}
 use Rattle.vg_script.specs.declared.scripts.Script.{Script}
 use Rattle.vg_script.specs.Generations.{generations_of}
 use Rattle.vg_script.specs.Reading.{script_of, refused, largest_script, IsRefusal}
+use Rattle.vg_plan.specs.Plan.{Planned}
 use Rattle.vg_plan.specs.Refusals.{IsRefusalOf}
 use Rattle.vg_report.specs.declared.errors.ReportCause.{ReportCause}
 use Rattle.vg_report.specs.declared.errors.ReportCause.TheVariants as report_causes
@@ -24,7 +25,7 @@ use Rattle.vgdraw.specs.Drawn.{drawings, IsWithin}
 use Rattle.vgdraw.specs.Reading.{IsLoadOf, IsScriptRefusalFor, IsScriptStop, IsReportStop}
 use Rattle.vgdraw.specs.declared.top.Due.{Due}
 use Rattle.vgdraw.specs.Dues.{IsDueFor}
-use Rattle.vgdraw.specs.Run.{Call, MakesAt, IsReportOf, IsDrawn, IsDue, status_of, line_of, OnRefusal, IsRefused, IsReportFault, IsMade, largest_report, script_stop, script_stop_by, report_stop, report_stop_by}
+use Rattle.vgdraw.specs.Run.{Call, MakesAt, MakesPlanAt, IsReportOf, IsDrawn, IsDue, status_of, line_of, OnRefusal, IsRefused, IsReportFault, IsMade, largest_report, script_stop, script_stop_by, report_stop, report_stop_by}
 use Rattle.vgdraw.proofs.PrintLemmas.{rose_later}
 
 -- a fact of all refusals of one kind holds of those of another
@@ -192,14 +193,22 @@ pub generation_refused : (call : Call) (ask : Ask) (graphs : List Graph) (count 
 generation_refused call ask graphs count now report is made same beyond files is_report =
     (ask, is, ((graphs, made, sym same, beyond), (report, subst (λ fs. IsReportOf fs ask.report report) files is_report)))
 
+-- a script that makes a plan makes its graphs
+pub graphs_made : (files : Option Files) (name : List ℕ) (plan : Planned) → MakesPlanAt files name plan → MakesAt files name plan.graphs
+graphs_made files name plan made = record {
+  bytes = made.bytes;
+  loaded = made.loaded;
+  makes = record { script = plan.script; is_script = made.makes.is_script; are_graphs = made.makes.are_graphs };
+}
+
 -- the text is that of the drawings
-pub drawn_is : (call : Call) (ask : Ask) (graphs : List Graph) (count : ℕ) (now : Option Files) (report : Option Report) (text : List ℕ) → asked call.words ≡ Some ask
-    → MakesAt call.files ask.script graphs → count ≡ length graphs → IsWithin count ask.which → now ≡ call.files → IsReportOf now ask.report report
-    → text ≡ drawings ask.which report graphs → IsDrawn call text
-drawn_is call ask graphs count now report text is made same within files is_report is_text = record {
+pub drawn_is : (call : Call) (ask : Ask) (plan : Planned) (count : ℕ) (now : Option Files) (report : Option Report) (text : List ℕ) → asked call.words ≡ Some ask
+    → MakesPlanAt call.files ask.script plan → count ≡ length plan.graphs → IsWithin count ask.which → now ≡ call.files → IsReportOf now ask.report report
+    → text ≡ drawings ask.which report plan → IsDrawn call text
+drawn_is call ask plan count now report text is made same within files is_report is_text = record {
   ask = ask;
   is_ask = is;
-  graphs = graphs;
+  plan = plan;
   made = made;
   within = subst (λ n. IsWithin n ask.which) same within;
   report = report;

@@ -11,6 +11,7 @@ use Rattle.vg_script.specs.Causes.{cause_word}
 use Rattle.vg_script.specs.Generations.{generations_of}
 use Rattle.vg_script.specs.Reading.{script_of, largest_script}
 use Rattle.vg_model.specs.Edit.{Cause}
+use Rattle.vg_plan.specs.Plan.{Planned}
 use Rattle.vg_plan.specs.Refusals.{error_of}
 use Rattle.vg_report.specs.declared.errors.ReportCause.{ReportCause}
 use Rattle.vg_report.specs.declared.errors.ReportCause.TheVariants as report_causes
@@ -93,6 +94,17 @@ pub record MakesAt (files : Option Files) (name : List ℕ) (graphs : List Graph
   pub loaded : FirstBytes files name (largest_script + 1) bytes
   pub makes : Makes bytes graphs
 
+-- the text of a script is read, and this is its plan
+pub record MakesPlan (text : List ℕ) (plan : Planned) : Type 0 where
+  pub is_script : script_of text ≡ Ok plan.script
+  pub are_graphs : generations_of plan.script ≡ Ok plan.graphs
+
+-- the script of this name makes this plan
+pub record MakesPlanAt (files : Option Files) (name : List ℕ) (plan : Planned) : Type 0 where
+  pub bytes : List ℕ
+  pub loaded : FirstBytes files name (largest_script + 1) bytes
+  pub makes : MakesPlan bytes plan
+
 -- the script of this name is refused
 pub record IsScriptFault (files : Option Files) (name : List ℕ) (error : ScriptError) : Type 0 where
   pub bytes : List ℕ
@@ -138,16 +150,16 @@ abbrev pub called : List (Bor (List ℕ)) → Option Files → (faults faults_af
 called words files faults faults_after = record { words = texts words; files = files; faults = faults; faults_after = faults_after }
 
 -- the text has the drawings of the generations that the words ask for: each names the nodes, the arcs, the interfaces and the neighbors of
--- that generation's graph, one line each
+-- that generation's graph, one line each, and at each neighbor prefixes that are routed over it
 pub record IsDrawn (call : Call) (text : List ℕ) : Type 0 where
   pub ask : Ask
   pub is_ask : asked call.words ≡ Some ask
-  pub graphs : List Graph
-  pub made : MakesAt call.files ask.script graphs
-  pub within : IsWithin (length graphs) ask.which
+  pub plan : Planned
+  pub made : MakesPlanAt call.files ask.script plan
+  pub within : IsWithin (length plan.graphs) ask.which
   pub report : Option Report
   pub is_report : IsReportOf call.files ask.report report
-  pub is_text : text ≡ drawings ask.which report graphs
+  pub is_text : text ≡ drawings ask.which report plan
 
 -- a load of this name failed
 abbrev pub IsLoadFault : Call → List ℕ → Type 0

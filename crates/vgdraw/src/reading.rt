@@ -1,7 +1,7 @@
 //! The script and the report, read from their files.
 ghost use Rattle.std.specs.Prelude.{◌≡◌, ◌+◌, ◌≤◌, ℕ, List, Ok, Err, IfOk, IfErr, option_map};
 ghost use Rattle.vg_outside.specs.Files.{FirstBytes, FailedLoad};
-ghost use Rattle.vgdraw.specs.Run.{Makes, MakesAt, IsReportOf, OnRefusal};
+ghost use Rattle.vgdraw.specs.Run.{MakesPlan, MakesPlanAt, IsReportOf, OnRefusal};
 ghost use Rattle.vgdraw.specs.Reading.{IsLoadOf, IsScriptRefusalFor, IsScriptStop, IsReportStop};
 
 use crate::refusals::{Refusal, Stop, report_stop, script_stop};
@@ -32,7 +32,7 @@ fn load_file<'a, F: Folder>(folder: &mut F, name: &'a str, limit: usize) -> Resu
 
 // The plan that a script makes.
 fn plan_of<'a>(alloc: Global, text: &[u8]) -> Result<Plan, Stop<'a>>
-    ensures plan { IfOk result (λ plan. Makes text.now plan.graphs) }
+    ensures plan { IfOk result (λ plan. MakesPlan text.now plan) }
     ensures stop { IfErr result (OnRefusal (IsScriptRefusalFor text.now)) }
 {
     let script = match parse_script(alloc, text) {
@@ -51,7 +51,7 @@ pub fn load_plan<'a, F: Folder>(
     folder: &mut F,
     name: &'a str,
 ) -> Result<Plan, Stop<'a>>
-    ensures plan { IfOk result (λ plan. MakesAt (F.contents folder.old) name.now plan.graphs) }
+    ensures plan { IfOk result (λ plan. MakesPlanAt (F.contents folder.old) name.now plan) }
     ensures same { F.contents folder.new ≡ F.contents folder.old }
     ensures later { (other : List ℕ) → F.faults folder.old other ≤ F.faults folder.new other }
     ensures stop { IfErr result (OnRefusal (IsScriptStop (F.contents folder.old) name.now (F.faults folder.old) (F.faults folder.new))) }

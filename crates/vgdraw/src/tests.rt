@@ -52,17 +52,18 @@ end
 #[test]
 fn all_generations_are_drawn(rt: HostRuntime) -> Result<(), Fail> {
     let script =
-        b"adjacency east interface pg0 dst 02:00:00:00:00:09\nat 5\narc ethernet-input ip4 interface-tx\nend\n";
+        b"adjacency east interface pg0 dst 02:00:00:00:00:09\nroute 10.0.0.0/8 via east\nat 5\narc ethernet-input ip4 interface-tx\nroute 11.0.0.0/8 via east\nend\n";
     let (status, text) = drawn(&rt, &["--all", "s", "r"], script, REPORT)?;
     assert_eq!(rt; status, 0);
     assert!(rt; has(&text, "digraph \"generation 0\" {\n"));
     assert!(rt; has(&text, "digraph \"generation 1\" {\n"));
     assert!(rt; has(&text, "  n2 -> n3 [label=\"ip4\"];\n"));
     assert!(rt; has(&text, "  n2 -> n7 [label=\"ip4\"];\n"));
+    assert!(rt; has(&text, "  n2 [label=\"ethernet-input\\nvisits 3\"];\n"));
     assert!(rt;
         has(
             &text,
-            "  n2 [label=\"ethernet-input\\nethernet-input\\nvisits 3\\ndrop short 1\"];\n"
+            "  n2 -> n8 [label=\"short 1\", color=red, fontcolor=red];\n"
         )
     );
     assert!(rt; has(&text, "  n3 -> n4 [label=\"lookup\"];\n"));
@@ -81,11 +82,20 @@ fn all_generations_are_drawn(rt: HostRuntime) -> Result<(), Fail> {
     assert!(rt;
         has(
             &text,
-            "  a0 [shape=ellipse, label=\"east\\n02:00:00:00:00:09\"]; i0 -> a0 [style=dashed];\n"
+            "  a0 [shape=ellipse, label=<east<BR/>02:00:00:00:00:09<BR/>10.0.0.0/8>]; i0 -> a0 [style=dashed];\n"
         )
     );
+    assert!(rt;
+        has(
+            &text,
+            "  a0 [shape=ellipse, label=<east<BR/>02:00:00:00:00:09<BR/>10.0.0.0/8<BR/><B>11.0.0.0/8</B>>]; i0 -> a0 [style=dashed];\n"
+        )
+    );
+    assert!(rt; has(&text, "  label=\"generation 0, from 0 us, 0 packets\";\n"));
+    assert!(rt; has(&text, "  label=\"generation 1, from 5 us, 0 packets\";\n"));
     let (status, one) = drawn(&rt, &["--generation", "1", "s"], script, REPORT)?;
     assert_eq!(rt; status, 0);
+    assert!(rt; has(&one, "<B>11.0.0.0/8</B>") && has(&one, "1, from 5 us\";\n"));
     assert!(rt; !has(&one, "n2 -> n3") && has(&one, "n2 -> n7"));
     Ok(())
 }
@@ -127,11 +137,12 @@ arc both ip4 ip4-input
     let (status, text) = drawn(&rt, &["s", "r"], script, PICKED)?;
     assert_eq!(rt; status, 0);
     for line in [
-        "  a0 [shape=ellipse, label=\"e0\\n02:00:00:00:00:10\"]; i0 -> a0 [style=dashed];\n",
-        "  a1 [shape=ellipse, label=\"e1\\n02:00:00:00:00:11\"]; i0 -> a1 [style=dashed];\n",
+        "  label=\"generation 0, from 0 us, 2 packets\";\n",
+        "  a0 [shape=ellipse, label=<e0<BR/>02:00:00:00:00:10<BR/>10.1.0.0/16<BR/>2001:db8::/32>]; i0 -> a0 [style=dashed];\n",
+        "  a1 [shape=ellipse, label=<e1<BR/>02:00:00:00:00:11<BR/>10.1.0.0/16<BR/>2001:db8::/32>]; i0 -> a1 [style=dashed];\n",
         "  i0 [shape=house, label=\"pg0\\n02:fe:00:00:00:00\\nmtu 9000 up\\ntx 2\"]; wire -> i0 [style=dashed];\n",
         "  n4 -> n5 [label=\"rewrite\"];\n",
-        "  n9 [label=\"cut\\ndot1q-match-100\\nvisits 0\"];\n",
+        "  n9 [label=\"cut\\ndot1q-match-100\\nvisits 0\", color=grey, fontcolor=grey];\n",
         "  n9 -> n8 [label=\"match\", color=grey, fontcolor=grey];\n",
         "  n9 -> n10 [label=\"else\", color=grey, fontcolor=grey];\n",
         "  n10 -> n3 [label=\"ip4\", color=grey, fontcolor=grey];\n",

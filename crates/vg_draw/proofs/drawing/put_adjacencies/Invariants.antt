@@ -1,6 +1,7 @@
 use Rattle.std.proofs.Common.{◌≡◌, ◌++◌, take}
+use Rattle.vg_draw.specs.Prefixes.{seen}
 use Rattle.vg_draw.specs.Drawing.{adjacency_lines}
 use Rattle.vg_draw.proofs.drawing.put_adjacencies.Given as goal
 
 abbrev pub invariant-loop-number : goal.invariant-loop-number
-invariant-loop-number l = l.out.items ≡ l.fn.out.items ++ adjacency_lines (take l.number l.graph.adjacencies)
+invariant-loop-number l = l.out.items ≡ l.fn.out.items ++ adjacency_lines (seen l.before) (seen l.routes) (take l.number l.graph.adjacencies)

@@ -1,14 +1,17 @@
-use Rattle.std.proofs.Common.{◌≡◌, ◌++◌, drop, ap, ◌∙◌, arith}
-use Rattle.vgdraw.specs.Drawn.{first_drawing}
-use Rattle.vgdraw.proofs.GenerationLemmas.{one_further, drawn_at}
+-- For the clause of `one`: the generation is reached, and drawn.
+use Rattle.std.proofs.Common.{◌≡◌, ◌-◌, ◌++◌, drop, ap, ◌∙◌, arith}
+use Rattle.vgdraw.specs.Drawn.{first_tables, first_drawing}
+use Rattle.vgdraw.proofs.GenerationLemmas.{IsReached, drawn_at}
 use Rattle.vgdraw.proofs.drawings.one.Goals as goal
-
-pub loop-made-preserved : goal.loop-made-preserved
-loop-made-preserved c = one_further _ _ c.args.plan.now.graphs c.loop-made.made c.loop-made.invariant c.in_ok-generations-2.ensures
 
 pub returns : goal.returns
 returns c =
-    let last : c.loop-made.made ≡ c.args.number = omega arith in
+    let same : c.saturating_sub.result ≡ c.args.number - 1 = omega (arith, c.saturating_sub.ensures) in
+    let reached : IsReached c.args.plan.now c.args.number c.begin_of-from.result c.in_ok-earlier.earlier c.in_ok-generations.generations = record {
+      begin = cc (c.begin_of-from.ensures, c.as_slice.ensures.value, c.in_ok-runs.ensures, c.script.ensures.script);
+      before = c.in_ok-earlier.ensures ∙ ap (λ n. drop n c.args.plan.now.graphs) same;
+      here = c.in_ok-generations.ensures;
+    } in
     c.in_ok-put_first.ensures
-    ∙ ap (λ xs. xs ++ first_drawing c.args.report.now c.args.number c.loop-made.generations) c.new-out.ensures.items
-    ∙ drawn_at c.args.report.now c.args.number c.loop-made.generations c.args.plan.now.graphs (c.loop-made.invariant ∙ ap (λ n. drop n c.args.plan.now.graphs) last)
+    ∙ ap (λ xs. xs ++ first_drawing c.args.report.now c.args.number c.begin_of-from.result (first_tables c.in_ok-earlier.earlier) c.in_ok-generations.generations) c.new-out.ensures.items
+    ∙ drawn_at c.args.report.now c.args.plan.now c.args.number c.begin_of-from.result c.in_ok-earlier.earlier c.in_ok-generations.generations reached
