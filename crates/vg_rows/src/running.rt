@@ -2,8 +2,7 @@
 ghost use Rattle.std.specs.Prelude.{◌≡◌, IfOk, if◌then◌else◌, length};
 ghost use Rattle.std.specs.List.{list_all};
 ghost use Rattle.vg_row.specs.Holds.{has_held};
-ghost use Rattle.vg_row.specs.Names.{names_of, names_said};
-ghost use Rattle.vg_rows.specs.Run.{judged_names, IsJudged};
+ghost use Rattle.vg_rows.specs.Run.{AreJudged, IsCheckMissOf, IsJudged, IsMissOf, RunsLines};
 
 use crate::sentences::sentence_of;
 use std::alloc::{AllocError, Global};
@@ -11,7 +10,8 @@ use std::sync::Wait;
 use std::thread::Threads;
 use vg_outside::{OpenGate, SureFolder, SureSink};
 use vg_row::{
-    Call, Cause, Fault, Judged, Kept, Outcome, Row, check_of, first_miss, read_rows, status_of,
+    Call, Cause, Fault, Judged, Kept, Miss, Outcome, Row, check_of, first_miss, read_rows,
+    status_of,
 };
 use vg_top::{Done, vgd_run};
 
@@ -72,19 +72,40 @@ fn outcomes_of<R: Wait + Threads + Sync>(
     Ok(outcomes)
 }
 
+/// Runs the calls of a row: the first that missed, if one did.
+fn miss_of<R: Wait + Threads + Sync>(
+    rt: &R,
+    alloc: Global,
+    row: &Row,
+) -> Result<Option<Miss>, AllocError>
+    ensures { IfOk result (IsMissOf row.now) }
+{
+    let outcomes = outcomes_of(rt, alloc, row)?;
+    Ok(first_miss(row, outcomes.as_slice()))
+}
+
+/// Runs the check of a row, where it has one: whether it missed, and how.
+fn check_miss_of<R: Wait + Threads + Sync>(
+    rt: &R,
+    alloc: Global,
+    row: &Row,
+) -> Result<Option<Miss>, AllocError>
+    ensures { IfOk result (IsCheckMissOf row.now) }
+{
+    match check_of(alloc, row)? {
+        Some(check) => miss_of(rt, alloc, &check),
+        None => Ok(None),
+    }
+}
+
 /// Whether a row holds, and where it doesn't.
 fn run_row<R: Wait + Threads + Sync>(rt: &R, alloc: Global, row: &Row) -> Result<Judged, AllocError>
     ensures { IfOk result (IsJudged row.now) }
 {
-    let miss = first_miss(row, outcomes_of(rt, alloc, row)?.as_slice());
-    let check_miss = match check_of(alloc, row)? {
-        Some(check) => first_miss(&check, outcomes_of(rt, alloc, &check)?.as_slice()),
-        None => None,
-    };
     Ok(Judged {
         name: row.name.clone()?,
-        miss,
-        check_miss,
+        miss: miss_of(rt, alloc, row)?,
+        check_miss: check_miss_of(rt, alloc, row)?,
     })
 }
 
@@ -94,7 +115,7 @@ fn run_rows<R: Wait + Threads + Sync>(
     alloc: Global,
     rows: &[Row],
 ) -> Result<Vec<Judged>, AllocError>
-    ensures { IfOk result (λ judged. judged_names judged.items ≡ names_of rows.now) }
+    ensures { IfOk result (λ judged. AreJudged rows.now judged.items) }
 {
     let mut judged = Vec::new(alloc);
     for row in rows {
@@ -122,7 +143,7 @@ pub(crate) fn run_lines<R: Wait + Threads + Sync>(
     alloc: Global,
     lines: &[&str],
 ) -> Result<Ran, Fault>
-    ensures names { IfOk result (λ ran. judged_names ran.judged.items ≡ names_said lines.now) }
+    ensures rows { IfOk result (λ ran. RunsLines lines.now ran.judged.items) }
     ensures status { IfOk result (λ ran. ran.status ≡ (if list_all has_held ran.judged.items then 0 else 1)) }
 {
     let rows = read_rows(alloc, lines)?;

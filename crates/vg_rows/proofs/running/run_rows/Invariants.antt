@@ -1,8 +1,7 @@
 -- `run_rows`, that each row is run, in their order: the loop over the rows.
-use Rattle.std.proofs.Common.{◌≡◌, take}
-use Rattle.vg_row.specs.Names.{names_of}
-use Rattle.vg_rows.specs.Run.{judged_names}
+use Rattle.std.proofs.Common.{take}
+use Rattle.vg_rows.specs.Run.{AreJudged}
 use Rattle.vg_rows.proofs.running.run_rows.Given as goal
 
 abbrev pub invariant-loop-row : goal.invariant-loop-row
-invariant-loop-row g l = judged_names l.judged.items ≡ names_of (take l.row-index l.rows)
+invariant-loop-row g l = AreJudged (take l.row-index l.rows) l.judged.items
