@@ -1,6 +1,6 @@
 -- The drawing of a graph in the DOT language, line by line.
-use Rattle.std.specs.Prelude.{ℕ, suc, ◌-◌, ◌==◌, Bool, true, false, List, [], ◌∷◌, ◌++◌, map, flat_map, count_by, slice_get, codes, decimal, bytes_eq, Option, Some, None, option_map, option_and_then, unwrap_or, if◌then◌else◌}
-use Rattle.std.specs.List.{fold, position_from, join_with_byte}
+use Rattle.std.specs.Prelude.{ℕ, suc, ◌-◌, ◌==◌, ◌||◌, Bool, true, false, List, [], ◌∷◌, ◌++◌, map, flat_map, count_by, slice_get, codes, decimal, bytes_eq, Option, Some, None, option_map, option_and_then, unwrap_or, if◌then◌else◌}
+use Rattle.std.specs.List.{fold, list_any, position_from, join_with_byte}
 use Rattle.vg_model.specs.declared.kinds.Adjacency.{Adjacency}
 use Rattle.vg_model.specs.declared.kinds.DropError.{DropError}
 use Rattle.vg_model.specs.declared.kinds.Interface.{Interface}
@@ -9,9 +9,10 @@ use Rattle.vg_model.specs.declared.kinds.Kind.TheVariants as kinds
 use Rattle.vg_model.specs.declared.names.Mac.{Mac}
 use Rattle.vg_model.specs.Errors.{error_word}
 use Rattle.vg_model.specs.declared.fates.Leg.{Leg}
-use Rattle.vg_model.specs.Graph.{Graph, Node, kind_entry, slots}
+use Rattle.vg_model.specs.Graph.{Graph, Node, kind_entry, slots, handoff_dequeue, error_drop}
 use Rattle.vg_report.specs.declared.reports.Report.{Report}
 use Rattle.vg_report.specs.declared.reports.PacketLine.{PacketLine}
+use Rattle.vg_draw.specs.declared.ways.Ways.{Ways}
 use Rattle.vg_draw.specs.Prefixes.{Tables, tables_of, prefixes_text}
 pub use Rattle.vg_draw.specs.Prefixes.{pair_text}
 
@@ -109,6 +110,45 @@ node_line report number name kind =
     codes "  " ++ (node_id number ++ (codes " [label=" ++ (34 ∷ (name ++ (kind_text name kind ++ (node_counts report name
     ++ (34 ∷ (grey_text (is_unvisited report name) ++ (codes "];" ++ (leaving number kind ++ 10 ∷ []))))))))))
 
+-- a node of this kind hands packets over to other workers
+abbrev pub hands_over : Kind → Bool
+hands_over (kinds.WorkerHandoff hash) = true
+hands_over kind = false
+
+-- one of these nodes hands packets over
+abbrev pub any_hands_over : List Node → Bool
+any_hands_over nodes = list_any (λ (node : Node). hands_over node.kind) nodes
+
+-- one of these arcs leads to the node that drops
+abbrev pub leads_to_drop : List ℕ → Bool
+leads_to_drop arcs = list_any (λ target. target == error_drop) arcs
+
+-- a report has a drop of the node of this name
+abbrev pub has_drop : Option Report → List ℕ → Bool
+has_drop None name = false
+has_drop (Some report) name = list_any (λ (e : List ℕ × DropError × ℕ). bytes_eq e.0 name) report.errors
+
+-- a node drops packets: an arc of it leads to the node that drops, or a report has a drop of it
+abbrev pub drops : Option Report → Node → Bool
+drops report node = leads_to_drop node.arcs || has_drop report node.name
+
+-- one of these nodes drops packets
+abbrev pub any_drops : Option Report → List Node → Bool
+any_drops report nodes = list_any (drops report) nodes
+
+-- what comes to the node that takes packets from the queues, and to the node that drops
+abbrev pub ways_of : Option Report → List Node → Ways
+ways_of report nodes = record { handed = any_hands_over nodes; dropped = any_drops report nodes }
+
+-- the node of this number stands in a drawing: the one that takes packets from the queues where some are handed over, the one that drops where some are
+-- dropped, and each other
+abbrev pub is_drawn : Ways → ℕ → Bool
+is_drawn ways number = if number == handoff_dequeue then ways.handed else if number == error_drop then ways.dropped else true
+
+-- the line of a node that stands in the drawing, and none of another
+abbrev pub drawn_line : Ways → Option Report → ℕ → List ℕ → Kind → List ℕ
+drawn_line ways report number name kind = if is_drawn ways number then node_line report number name kind else []
+
 -- the line of an arc from a node of a name and a kind to another: as label it has the name of the slot
 abbrev pub arc_line : Option Report → ℕ → List ℕ → Kind → ℕ → ℕ → List ℕ
 arc_line report number name kind slot target =
@@ -188,9 +228,12 @@ head_text report generation from =
     codes "digraph " ++ (34 ∷ (codes "generation " ++ (decimal generation ++ (34 ∷ (codes " {" ++ 10 ∷ (codes "  label=" ++ (34 ∷ (generation_label report generation from
     ++ (34 ∷ (codes ";" ++ 10 ∷ (codes "  labelloc=t;" ++ 10 ∷ (codes "  node [shape=box];" ++ 10 ∷ (codes "  wire [shape=point];" ++ 10 ∷ [])))))))))))))
 
--- the lines of the nodes, by number
+-- the lines of the nodes that stand in the drawing, by number
+abbrev pub drawn_lines : Ways → Option Report → List Node → List ℕ
+drawn_lines ways report nodes = all_of (numbered (λ number node. drawn_line ways report number node.name node.kind) 0 nodes)
+
 abbrev pub node_lines : Option Report → List Node → List ℕ
-node_lines report nodes = all_of (numbered (λ number node. node_line report number node.name node.kind) 0 nodes)
+node_lines report nodes = drawn_lines (ways_of report nodes) report nodes
 
 -- the lines of all arcs, by node and slot
 abbrev pub all_arc_lines : Option Report → List Node → List ℕ

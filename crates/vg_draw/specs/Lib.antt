@@ -1,3 +1,4 @@
 pub mod Prefixes
 pub mod Drawing
 pub mod Once
+pub mod Ends

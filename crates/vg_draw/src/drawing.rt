@@ -2,26 +2,57 @@
 ghost use Rattle.std.specs.Prelude.{◌≡◌, ◌<◌, ◌++◌, OnOk, Some, length};
 ghost use Rattle.vg_model.specs.Graph.{kind_at, next_nodes, with_routes};
 ghost use Rattle.vg_draw.specs.Prefixes.{seen};
-ghost use Rattle.vg_draw.specs.Drawing.{arc_lines, node_lines, all_arc_lines, all_drop_lines, interface_lines, adjacency_lines, drawing};
+ghost use Rattle.vg_draw.specs.Drawing.{arc_lines, drawn_line, drawn_lines, node_lines, all_arc_lines, all_drop_lines, interface_lines, adjacency_lines, drawing};
 
 use crate::lines::{
     put_adjacency_line, put_arc_line, put_drop_lines, put_head, put_interface_line, put_node_line,
 };
 use crate::prefixes::Routes;
+use crate::ways::Ways;
 use crate::words::put;
 use std::alloc::AllocError;
 use vg_graph::Graph;
 use vg_model::{Kind, Name};
 use vg_report::Report;
 
-fn put_nodes(out: &mut Vec<u8>, report: &Option<Report>, graph: &Graph) -> Result<(), AllocError>
-    ensures { OnOk result (out.new.items ≡ out.old.items ++ node_lines report.now graph.now.nodes) }
+// Appends the line of a node, where the node stands in the drawing.
+fn put_drawn_line(
+    out: &mut Vec<u8>,
+    report: &Option<Report>,
+    ways: Ways,
+    number: u16,
+    name: &Name,
+    kind: Kind,
+) -> Result<(), AllocError>
+    ensures { OnOk result (out.new.items ≡ out.old.items ++ drawn_line ways report.now number name.now kind) }
+{
+    if ways.shows(number) {
+        put_node_line(out, report, number, name, kind)
+    } else {
+        Ok(())
+    }
+}
+
+// Appends the lines of the nodes that stand in the drawing.
+fn put_drawn_lines(
+    out: &mut Vec<u8>,
+    report: &Option<Report>,
+    graph: &Graph,
+    ways: Ways,
+) -> Result<(), AllocError>
+    ensures { OnOk result (out.new.items ≡ out.old.items ++ drawn_lines ways report.now graph.now.nodes) }
 {
     for number in 0..graph.nodes() {
         let kind = graph.kind(number);
-        put_node_line(out, report, number, graph.node_name(number), kind)?;
+        put_drawn_line(out, report, ways, number, graph.node_name(number), kind)?;
     }
     Ok(())
+}
+
+fn put_nodes(out: &mut Vec<u8>, report: &Option<Report>, graph: &Graph) -> Result<(), AllocError>
+    ensures { OnOk result (out.new.items ≡ out.old.items ++ node_lines report.now graph.now.nodes) }
+{
+    put_drawn_lines(out, report, graph, Ways::of(report, graph))
 }
 
 // Appends the lines of the arcs of a node of this name and this kind.
@@ -94,9 +125,11 @@ fn put_adjacencies(
 
 /// Appends the drawing of a generation's graph and its routes, in the DOT language, under a label with the generation's number and the
 /// time from which on it was the graph, in microseconds from the first packet: a line for each node with its name, and its kind where
-/// that is another word, for each arc with the name of its slot, and for each interface and each neighbor. A neighbor has the prefixes
-/// that are routed over it, those of IPv4 first: eight, and how many more there are. In bold are those that no route led over it with
-/// in the generation before, whose routes are given too; for the first generation give its own. An interface that is down is red.
+/// that is another word, for each arc with the name of its slot, and for each interface and each neighbor. The node that takes packets
+/// from the queues stands in it where a node hands packets over, and the node that drops where an arc or a drop of the report leads to
+/// it. A neighbor has the prefixes that are routed over it, those of IPv4 first: eight, and how many more there are. In bold are those
+/// that no route led over it with in the generation before, whose routes are given too; for the first generation give its own. An
+/// interface that is down is red.
 ///
 /// With a report of a run the label has how many packets began in the generation, the lines of the nodes have the visits, and those of
 /// the interfaces what was transmitted. Each error that a node dropped with is a red line to the node that drops, with its count. A

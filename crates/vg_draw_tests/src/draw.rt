@@ -3,7 +3,7 @@
 use std::alloc::Global;
 use std::process::Abort;
 use std::test::Fail;
-use vg_draw::laws::{arcs_stand_once, nodes_stand_once};
+use vg_draw::laws::{arcs_stand_once, lines_end_at_nodes, nodes_stand_once};
 use vg_draw::{Routes, draw};
 use vg_graph::Graph;
 use vg_model::{Edit, Kind, Name};
@@ -28,6 +28,7 @@ fn routes_of(master: &Master) -> Routes<'_> {
 fn the_start_graph_is_drawn(rt: HostRuntime) -> Result<(), Fail> {
     nodes_stand_once();
     arcs_stand_once();
+    lines_end_at_nodes();
     let graph = Graph::start(rt.alloc())?;
     let mut out = Vec::new(rt.alloc());
     draw(&mut out, &None, 0, 0, none(), &graph, none())?;
@@ -37,14 +38,12 @@ fn the_start_graph_is_drawn(rt: HostRuntime) -> Result<(), Fail> {
   node [shape=box];
   wire [shape=point];
   n0 [label=\"pg-input\"];
-  n1 [label=\"handoff-dequeue\"];
   n2 [label=\"ethernet-input\"];
   n3 [label=\"ip4-input\"];
   n4 [label=\"ip4-lookup\"];
   n5 [label=\"ip4-rewrite\"];
   n6 [label=\"interface-output\"];
   n7 [label=\"interface-tx\"]; n7 -> wire [style=dashed];
-  n8 [label=\"error-drop\"];
   n0 -> n2 [label=\"out\"];
   n2 -> n3 [label=\"ip4\"];
   n3 -> n4 [label=\"lookup\"];
@@ -158,6 +157,8 @@ fn both_arcs_of_a_node_have_one_color(rt: HostRuntime) -> Result<(), Fail> {
     assert!(rt; has(&text, nodes));
     assert!(rt; has(&text, arcs));
     assert!(rt; has(&text, drops));
+    assert!(rt; has(&text, "  n8 [label=\"error-drop\\nvisits 5\"];\n"));
+    assert!(rt; !has(&text, "  n1 ["));
     assert!(rt; has(&text, "  label=\"generation 0, from 0 us, 0 packets\";\n"));
     Ok(())
 }
@@ -174,6 +175,7 @@ fn a_kind_is_drawn_by_its_name_where_scripts_have_no_word(rt: HostRuntime) -> Re
     draw(&mut out, &None, 0, 0, none(), &graph, none())?;
     assert!(rt; has(&out, "  n9 [label=\"far\\nxconnect-200\"];\n"));
     assert!(rt; has(&out, "  n9 -> n8 [label=\"out\"];\n"));
+    assert!(rt; has(&out, "  n8 [label=\"error-drop\"];\n"));
     Ok(())
 }
 
