@@ -4,3 +4,4 @@ pub mod EndLemmas
 pub mod LineLemmas
 pub mod PrefixLemmas
 pub mod OnceLemmas
+pub mod ShareLemmas

@@ -11,7 +11,7 @@ use Rattle.vg_model.specs.Valid.{IsValid}
 use Rattle.vg_model.proofs.Journeys.{map_some}
 use Rattle.vg_model.proofs.LegEnds.{all_at}
 use Rattle.vg_draw.specs.Prefixes.{pair_text, group_text}
-use Rattle.vg_draw.specs.Drawing.{numbered, all_of}
+use Rattle.vg_draw.specs.Drawing.{carrying, sent_text, numbered, all_of}
 
 -- pieces joined by a byte are the first, and each other behind the byte
 join_with_byte-cons : (c : ℕ) (x : List ℕ) (xs : List (List ℕ)) → join_with_byte c (x ∷ xs) ≡ x ++ flat_map (λ y. c ∷ y) xs
@@ -102,7 +102,10 @@ length-next_nodes g n kind valid is_kind =
 pub five : (before a b c d e : List ℕ) → ((((before ++ a) ++ b) ++ c) ++ d) ++ e ≡ before ++ (a ++ (b ++ (c ++ (d ++ e))))
 five before a b c d e = simp append_assoc
 
--- a line: two blanks, what a thing is named, its shape, and then four, six or eight pieces
+-- a line: two blanks, what a thing is named, its shape, and then two, four, six or eight pieces
+pub two_behind : (before begin id shape a b : List ℕ) → ((before ++ (begin ++ (id ++ shape))) ++ a) ++ b ≡ before ++ (begin ++ (id ++ (shape ++ (a ++ b))))
+two_behind before begin id shape a b = simp append_assoc
+
 pub four_behind : (before begin id shape a b c d : List ℕ)
     → ((((before ++ (begin ++ (id ++ shape))) ++ a) ++ b) ++ c) ++ d ≡ before ++ (begin ++ (id ++ (shape ++ (a ++ (b ++ (c ++ d))))))
 four_behind before begin id shape a b c d = simp append_assoc
@@ -115,6 +118,25 @@ pub eight_behind : (before begin id shape a b c d e f g h : List ℕ)
     → ((((((((before ++ (begin ++ (id ++ shape))) ++ a) ++ b) ++ c) ++ d) ++ e) ++ f) ++ g) ++ h
     ≡ before ++ (begin ++ (id ++ (shape ++ (a ++ (b ++ (c ++ (d ++ (e ++ (f ++ (g ++ h))))))))))
 eight_behind before begin id shape a b c d e f g h = simp append_assoc
+
+-- a line in its pieces, each appended to what stood before it
+pub four_steps : (before begin id shape a b c d : List ℕ) {v w x y z : List ℕ} → v ≡ before ++ (begin ++ (id ++ shape)) → w ≡ v ++ a → x ≡ w ++ b → y ≡ x ++ c
+    → z ≡ y ++ d → z ≡ before ++ (begin ++ (id ++ (shape ++ (a ++ (b ++ (c ++ d))))))
+four_steps before begin id shape a b c d p q r s t = cc (p, q, r, s, t, four_behind before begin id shape a b c d)
+
+pub eight_steps : (before begin id shape a b c d e f g h : List ℕ) {o p q r s t u v w : List ℕ} → o ≡ before ++ (begin ++ (id ++ shape)) → p ≡ o ++ a → q ≡ p ++ b
+    → r ≡ q ++ c → s ≡ r ++ d → t ≡ s ++ e → u ≡ t ++ f → v ≡ u ++ g → w ≡ v ++ h
+    → w ≡ before ++ (begin ++ (id ++ (shape ++ (a ++ (b ++ (c ++ (d ++ (e ++ (f ++ (g ++ h))))))))))
+eight_steps before begin id shape a b c d e f g h e0 e1 e2 e3 e4 e5 e6 e7 e8 =
+    cc (e0, e1, e2, e3, e4, e5, e6, e7, e8, eight_behind before begin id shape a b c d e f g h)
+
+-- what a line carried, by its parts
+pub carrying_same : {p p' : ℕ} {w w' : List ℕ} {n n' : Option ℕ} → p ≡ p' → w ≡ w' → n ≡ n' → carrying p w n ≡ carrying p' w' n'
+carrying_same {p = p} {p' = p'} {w = w} {w' = w'} {n = n} {n' = n'} same_packets same_word same_count =
+    ap (λ x. carrying x w n) same_packets ∙ ap (λ x. carrying p' x n) same_word ∙ ap (λ x. carrying p' w' x) same_count
+
+pub sent_same : {p p' : ℕ} {n n' : Option ℕ} → p ≡ p' → n ≡ n' → sent_text p n ≡ sent_text p' n'
+sent_same {p = p} {p' = p'} {n = n} {n' = n'} same_packets same_count = ap (λ x. sent_text x n) same_packets ∙ ap (λ x. sent_text p' x) same_count
 
 -- the drawing in its parts, each appended to what stood before it
 pub drawing_steps : (before head nodes arcs drops interfaces adjacencies end : List ℕ) {a b c d e f g : List ℕ} → a ≡ before ++ head → b ≡ a ++ nodes → c ≡ b ++ arcs

@@ -1,5 +1,5 @@
 -- The drawing of a graph in the DOT language, line by line.
-use Rattle.std.specs.Prelude.{ℕ, suc, ◌-◌, ◌==◌, ◌||◌, Bool, true, false, List, [], ◌∷◌, ◌++◌, map, flat_map, count_by, slice_get, codes, decimal, bytes_eq, Option, Some, None, option_map, option_and_then, unwrap_or, if◌then◌else◌}
+use Rattle.std.specs.Prelude.{ℕ, suc, ◌+◌, ◌-◌, ◌*◌, ◌/◌, min, max, ◌==◌, ◌||◌, Bool, true, false, List, [], ◌∷◌, ◌++◌, map, flat_map, length, count_by, slice_get, codes, decimal, bytes_eq, Option, Some, None, option_map, option_and_then, unwrap_or, if◌then◌else◌}
 use Rattle.std.specs.List.{fold, list_any, position_from, join_with_byte}
 use Rattle.vg_model.specs.declared.kinds.Adjacency.{Adjacency}
 use Rattle.vg_model.specs.declared.kinds.DropError.{DropError}
@@ -37,10 +37,33 @@ less name left entry = if bytes_eq entry.0 name then left - entry.2 else left
 abbrev pub passed_on : List (List ℕ × DropError × ℕ) → List ℕ → (visits : ℕ) → ℕ
 passed_on errors name visits = fold (less name) visits errors
 
--- a report tells that a node passed no packet on
-abbrev pub carries_nothing : Option Report → List ℕ → Bool
-carries_nothing None name = false
-carries_nothing (Some report) name = unwrap_or (option_map (λ visits. passed_on report.errors name visits == 0) (counted_in report.nodes name)) false
+-- how many packets a report says that a node passed on
+abbrev pub passed_count : Option Report → List ℕ → Option ℕ
+passed_count None name = None
+passed_count (Some report) name = option_map (λ visits. passed_on report.errors name visits) (counted_in report.nodes name)
+
+-- what each arc of a node with so many slots carried, where that is known: all that the node passed on where it has one slot, and nothing where it passed
+-- nothing on. A report counts by node, so it doesn't tell what each of two arcs carried
+abbrev pub carried : (slots passed : ℕ) → Option ℕ
+carried slots passed = if slots == 1 || passed == 0 then Some passed else None
+
+-- the same of a node by its name and its kind
+abbrev pub arc_count : Option Report → List ℕ → Kind → Option ℕ
+arc_count report name kind = option_and_then (λ passed. carried (length (slots kind)) passed) (passed_count report name)
+
+-- how many packets a report says were transmitted on an interface
+abbrev pub sent_count : Option Report → List ℕ → Option ℕ
+sent_count None name = None
+sent_count (Some report) name = counted_in report.interfaces name
+
+-- how many packets the run of a report had
+abbrev pub packets_of : Option Report → ℕ
+packets_of None = 0
+packets_of (Some report) = length report.packets
+
+-- the width of a line that carried so many of a run's packets: 1 to 5, by their share
+abbrev pub width : (packets count : ℕ) → ℕ
+width packets count = 1 + min count packets * 4 / max packets 1
 
 -- a further line of a label: `\n`, a word, a space and a number
 abbrev pub count_text : List ℕ → ℕ → List ℕ
@@ -61,11 +84,6 @@ abbrev pub is_unvisited : Option Report → List ℕ → Bool
 is_unvisited None name = false
 is_unvisited (Some report) name = unwrap_or (option_map (λ visits. visits == 0) (counted_in report.nodes name)) false
 
--- what a report tells of an interface: how many packets were transmitted on it
-abbrev pub interface_counts : Option Report → List ℕ → List ℕ
-interface_counts None name = []
-interface_counts (Some report) name = counted_text (codes "tx") (counted_in report.interfaces name)
-
 -- the name of a thing in the text: a letter and its number
 abbrev pub id : ℕ → ℕ → List ℕ
 id letter number = letter ∷ decimal number
@@ -80,25 +98,42 @@ interface_id = id 105
 abbrev pub adjacency_id : ℕ → List ℕ
 adjacency_id = id 97
 
--- a dashed line from a node
-abbrev pub dashed : ℕ → List ℕ → List ℕ
-dashed number target = 32 ∷ (node_id number ++ (codes " -> " ++ (target ++ codes " [style=dashed];")))
-
--- where packets go from a node other than over its arcs: onto the wire, or by a queue to the node that takes from the queues
-abbrev pub leaving : ℕ → Kind → List ℕ
-leaving number kinds.InterfaceTx = dashed number (codes "wire")
-leaving number (kinds.WorkerHandoff hash) = dashed number (codes "n1")
-leaving number kind = []
-
 -- the kind of a node as a further line of its label, where its name is another word
 abbrev pub kind_text : List ℕ → Kind → List ℕ
 kind_text name kind = if bytes_eq (kind_word kind) name then [] else 92 ∷ 110 ∷ kind_word kind
 
--- grey where nothing came: at a node that was never visited, and at an arc of a node that passed no packet on. A report counts by node, so both arcs
--- of a node have one color
+-- grey where nothing came
 abbrev pub grey_text : Bool → List ℕ
 grey_text false = []
 grey_text true = codes ", color=grey, fontcolor=grey"
+
+-- the looks of a line by what it carried: grey for nothing, else as wide as its share
+abbrev pub looks_text : (packets count : ℕ) → List ℕ
+looks_text packets count = if count == 0 then grey_text true else codes ", penwidth=" ++ decimal (width packets count)
+
+-- the same where that is known
+abbrev pub share_text : (packets : ℕ) → Option ℕ → List ℕ
+share_text packets None = []
+share_text packets (Some count) = looks_text packets count
+
+-- a count behind a word, where there is one
+abbrev pub behind_text : Option ℕ → List ℕ
+behind_text None = []
+behind_text (Some count) = 32 ∷ decimal count
+
+-- the label of a line, its word and what it carried, and its looks. A blank keeps the label off a wide line
+abbrev pub carrying : (packets : ℕ) → List ℕ → Option ℕ → List ℕ
+carrying packets word count = codes "label=" ++ (34 ∷ (32 ∷ (word ++ (behind_text count ++ (34 ∷ share_text packets count)))))
+
+-- a dashed line from a node, by what it carried
+abbrev pub dashed : (packets : ℕ) → ℕ → List ℕ → Option ℕ → List ℕ
+dashed packets number target count = 32 ∷ (node_id number ++ (codes " -> " ++ (target ++ (codes " [style=dashed" ++ (share_text packets count ++ codes "];")))))
+
+-- where packets go from a node other than over its arcs: onto the wire, or by a queue to the node that takes from the queues
+abbrev pub leaving : Option Report → ℕ → List ℕ → Kind → List ℕ
+leaving report number name kinds.InterfaceTx = dashed (packets_of report) number (codes "wire") (passed_count report name)
+leaving report number name (kinds.WorkerHandoff hash) = dashed (packets_of report) number (codes "n1") None
+leaving report number name kind = []
 
 -- red where an interface is down
 abbrev pub down_text : Bool → List ℕ
@@ -108,7 +143,7 @@ down_text up = if up then [] else codes ", color=red, fontcolor=red"
 abbrev pub node_line : Option Report → ℕ → List ℕ → Kind → List ℕ
 node_line report number name kind =
     codes "  " ++ (node_id number ++ (codes " [label=" ++ (34 ∷ (name ++ (kind_text name kind ++ (node_counts report name
-    ++ (34 ∷ (grey_text (is_unvisited report name) ++ (codes "];" ++ (leaving number kind ++ 10 ∷ []))))))))))
+    ++ (34 ∷ (grey_text (is_unvisited report name) ++ (codes "];" ++ (leaving report number name kind ++ 10 ∷ []))))))))))
 
 -- a node of this kind hands packets over to other workers
 abbrev pub hands_over : Kind → Bool
@@ -149,25 +184,25 @@ is_drawn ways number = if number == handoff_dequeue then ways.handed else if num
 abbrev pub drawn_line : Ways → Option Report → ℕ → List ℕ → Kind → List ℕ
 drawn_line ways report number name kind = if is_drawn ways number then node_line report number name kind else []
 
--- the line of an arc from a node of a name and a kind to another: as label it has the name of the slot
+-- the line of an arc from a node of a name and a kind to another: as label it has the name of the slot, and what it carried
 abbrev pub arc_line : Option Report → ℕ → List ℕ → Kind → ℕ → ℕ → List ℕ
 arc_line report number name kind slot target =
-    codes "  " ++ (node_id number ++ (codes " -> " ++ (node_id target ++ (codes " [label=" ++ (34 ∷ (unwrap_or (slice_get (slots kind) slot) []
-    ++ (34 ∷ (grey_text (carries_nothing report name) ++ (codes "];" ++ 10 ∷ [])))))))))
+    codes "  " ++ (node_id number ++ (codes " -> " ++ (node_id target ++ (codes " ["
+    ++ (carrying (packets_of report) (unwrap_or (slice_get (slots kind) slot) []) (arc_count report name kind) ++ (codes "];" ++ 10 ∷ []))))))
 
 -- a red line from a node to the node that drops, with an error and how often the node dropped with it
-abbrev pub drop_text : ℕ → DropError → ℕ → List ℕ
-drop_text number error count =
-    codes "  " ++ (node_id number ++ (codes " -> n8 [label=" ++ (34 ∷ (error_word error ++ (32 ∷ (decimal count ++ (34 ∷ (codes ", color=red, fontcolor=red];" ++ 10 ∷ []))))))))
+abbrev pub drop_text : (packets : ℕ) → ℕ → DropError → ℕ → List ℕ
+drop_text packets number error count =
+    codes "  " ++ (node_id number ++ (codes " -> n8 [" ++ (carrying packets (error_word error) (Some count) ++ (codes ", color=red, fontcolor=red];" ++ 10 ∷ []))))
 
 -- the line of a report's entry, where it is the node's
-abbrev pub drop_line : ℕ → List ℕ → List ℕ × DropError × ℕ → List ℕ
-drop_line number name entry = if bytes_eq entry.0 name then drop_text number entry.1 entry.2 else []
+abbrev pub drop_line : (packets : ℕ) → ℕ → List ℕ → List ℕ × DropError × ℕ → List ℕ
+drop_line packets number name entry = if bytes_eq entry.0 name then drop_text packets number entry.1 entry.2 else []
 
 -- the lines of a node's drops, in the order of the report
 abbrev pub drop_lines : Option Report → ℕ → List ℕ → List ℕ
 drop_lines None number name = []
-drop_lines (Some report) number name = flat_map (drop_line number name) report.errors
+drop_lines (Some report) number name = flat_map (drop_line (length report.packets) number name) report.errors
 
 -- a line for each element, with its number from this one on
 abbrev pub numbered : {X : Type 0} → (ℕ → X → List ℕ) → ℕ → List X → List (List ℕ)
@@ -186,17 +221,22 @@ arc_lines report number name kind arcs = all_of (numbered (arc_line report numbe
 abbrev pub state_text : Bool → Bool → List ℕ
 state_text up filter = (if up then codes " up" else codes " down") ++ (if filter then codes " filter" else [])
 
--- the label of an interface: its name, its address, its mtu and its state, and what the report tells of it
-abbrev pub interface_label : Option Report → Interface → List ℕ
-interface_label report interface =
-    interface.name ++ (92 ∷ 110 ∷ (mac_text interface.mac ++ (92 ∷ 110 ∷ (codes "mtu " ++ (decimal interface.mtu
-    ++ (state_text interface.up interface.filter ++ interface_counts report interface.name))))))
+-- the label of an interface: its name, its address, its mtu and its state
+abbrev pub interface_label : Interface → List ℕ
+interface_label interface =
+    interface.name ++ (92 ∷ 110 ∷ (mac_text interface.mac ++ (92 ∷ 110 ∷ (codes "mtu " ++ (decimal interface.mtu ++ state_text interface.up interface.filter)))))
 
--- the line of an interface, red where it is down
+-- what was transmitted on an interface, as the label and the looks of the line to it
+abbrev pub sent_text : (packets : ℕ) → Option ℕ → List ℕ
+sent_text packets None = []
+sent_text packets (Some count) = codes ", " ++ carrying packets (codes "tx") (Some count)
+
+-- the line of an interface, red where it is down, and the dashed line to it
 abbrev pub interface_line : Option Report → ℕ → Interface → List ℕ
 interface_line report number interface =
-    codes "  " ++ (interface_id number ++ (codes " [shape=house, label=" ++ (34 ∷ (interface_label report interface
-    ++ (34 ∷ (down_text interface.up ++ (codes "]; wire -> " ++ (interface_id number ++ (codes " [style=dashed];" ++ 10 ∷ [])))))))))
+    codes "  " ++ (interface_id number ++ (codes " [shape=house, label=" ++ (34 ∷ (interface_label interface ++ (34 ∷ (down_text interface.up
+    ++ (codes "]; wire -> " ++ (interface_id number ++ (codes " [style=dashed" ++ (sent_text (packets_of report) (sent_count report interface.name)
+    ++ (codes "];" ++ 10 ∷ [])))))))))))
 
 -- the label of a neighbor: its name, its address, and the prefixes that are routed over it
 abbrev pub adjacency_label : (before now : Tables) → ℕ → Adjacency → List ℕ
@@ -205,7 +245,7 @@ adjacency_label before now number adjacency = adjacency.name ++ (codes "<BR/>" +
 -- the line of a neighbor: its label, and the interface that it is behind
 abbrev pub adjacency_line : (before now : Tables) → ℕ → Adjacency → List ℕ
 adjacency_line before now number adjacency =
-    codes "  " ++ (adjacency_id number ++ (codes " [shape=ellipse, label=<" ++ (adjacency_label before now number adjacency
+    codes "  " ++ (adjacency_id number ++ (codes " [style=rounded, label=<" ++ (adjacency_label before now number adjacency
     ++ (codes ">]; " ++ (interface_id adjacency.interface ++ (codes " -> " ++ (adjacency_id number ++ (codes " [style=dashed];" ++ 10 ∷ []))))))))
 
 -- the packet began in this generation

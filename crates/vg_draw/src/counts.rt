@@ -1,11 +1,11 @@
 //! What a report counted, by the names of nodes and interfaces.
 ghost use Rattle.std.specs.Prelude.{◌≡◌, ◌+◌, ◌<◌, ◌≤◌, ◌^◌, ◌++◌, ℕ, List, Some, bytes_eq, count_by, length, option_map, slice_get, IfSome, OnOk, if◌then◌else◌};
 ghost use Rattle.std.specs.List.{position_from};
-ghost use Rattle.vg_draw.specs.Drawing.{counted_in, less as less_of, passed_on as passed_on_of, carries_nothing as carries_nothing_of, is_unvisited as is_unvisited_by, began_in, began_text, counted_text, node_counts, interface_counts};
+ghost use Rattle.vg_draw.specs.Drawing.{counted_in, less as less_of, passed_on as passed_on_of, passed_count as passed_count_of, carried as carried_of, arc_count as arc_count_of, sent_count as sent_count_of, packets_of as packets_by, is_unvisited as is_unvisited_by, began_in, began_text, counted_text, node_counts};
 
 use crate::words::{put, put_count, put_decimal};
 use std::alloc::AllocError;
-use vg_model::{DropError, Name};
+use vg_model::{DropError, Kind, Name};
 use vg_report::{PacketLines, Report};
 
 // The place of the first entry of a name.
@@ -48,16 +48,57 @@ fn passed_on(errors: &[(Name, DropError, u64)], name: &Name, visits: u64) -> u64
     left
 }
 
-/// Whether by a report a node passed no packet on.
-pub fn carries_nothing(report: &Option<Report>, name: &Name) -> bool
-    ensures { result ≡ carries_nothing_of report.now name.now }
+/// How many packets a report says that a node passed on.
+pub fn passed_count(report: &Option<Report>, name: &Name) -> Option<u64>
+    ensures { result ≡ passed_count_of report.now name.now }
 {
     match report {
-        None => false,
+        None => None,
         Some(report) => match counted(report.nodes.as_slice(), name) {
-            None => false,
-            Some(visits) => passed_on(report.errors.as_slice(), name, visits) == 0,
+            None => None,
+            Some(visits) => Some(passed_on(report.errors.as_slice(), name, visits)),
         },
+    }
+}
+
+// What each arc of a node with so many slots carried, where that is known.
+fn carried(slots: u8, passed: u64) -> Option<u64>
+    ensures { result ≡ carried_of slots passed }
+{
+    if slots == 1 || passed == 0 {
+        Some(passed)
+    } else {
+        None
+    }
+}
+
+/// What each arc of a node carried, where a report tells: it counts by node, and so not what each of two arcs carried.
+pub fn arc_count(report: &Option<Report>, name: &Name, kind: Kind) -> Option<u64>
+    ensures { result ≡ arc_count_of report.now name.now kind }
+{
+    match passed_count(report, name) {
+        None => None,
+        Some(passed) => carried(kind.slots(), passed),
+    }
+}
+
+/// How many packets a report says were transmitted on an interface.
+pub fn sent_count(report: &Option<Report>, name: &Name) -> Option<u64>
+    ensures { result ≡ sent_count_of report.now name.now }
+{
+    match report {
+        None => None,
+        Some(report) => counted(report.interfaces.as_slice(), name),
+    }
+}
+
+/// How many packets the run of a report had.
+pub fn packets_of(report: &Option<Report>) -> u64
+    ensures { result ≡ packets_by report.now }
+{
+    match report {
+        None => 0,
+        Some(report) => report.packets.len() as u64,
     }
 }
 
@@ -95,20 +136,6 @@ pub fn is_unvisited(report: &Option<Report>, name: &Name) -> bool
             None => false,
             Some(visits) => visits == 0,
         },
-    }
-}
-
-/// Appends what a report counts of an interface: how many packets were transmitted on it.
-pub fn put_interface_counts(
-    out: &mut Vec<u8>,
-    report: &Option<Report>,
-    name: &Name,
-) -> Result<(), AllocError>
-    ensures { OnOk result (out.new.items ≡ out.old.items ++ interface_counts report.now name.now) }
-{
-    match report {
-        None => Ok(()),
-        Some(report) => { put_counted(out, b"tx", counted(report.interfaces.as_slice(), name)) }
     }
 }
 

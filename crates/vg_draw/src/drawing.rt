@@ -131,10 +131,11 @@ fn put_adjacencies(
 /// that no route led over it with in the generation before, whose routes are given too; for the first generation give its own. An
 /// interface that is down is red.
 ///
-/// With a report of a run the label has how many packets began in the generation, the lines of the nodes have the visits, and those of
-/// the interfaces what was transmitted. Each error that a node dropped with is a red line to the node that drops, with its count. A
-/// node that was never visited and the arcs of a node that passed no packet on are grey. A report counts by node, so both arcs of a
-/// node have one color.
+/// With a report of a run the label has how many packets began in the generation, and the lines of the nodes have the visits; a node
+/// that was never visited is grey. Each error that a node dropped with is a red line to the node that drops, with its count, and the
+/// line to each interface has what was transmitted on it. An arc has what it carried where the report tells: it counts by node, and so
+/// not what each of two arcs carried. By one rule each line is grey where it carried nothing, and else as wide as its share of the
+/// run's packets.
 ///
 /// The report counts over all generations, and its counts are found by name. The only error is want of memory.
 pub fn draw(

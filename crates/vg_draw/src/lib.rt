@@ -1,6 +1,6 @@
 //! The drawing of a generation's graph in the DOT language of Graphviz, with what a report counted.
 //!
-//! In which order to read: `drawing`, `lines` with `words`, `counts`, `prefixes`, `ways`; then `laws`.
+//! In which order to read: `drawing`, `lines` with `words`, `counts`, `shares`, `prefixes`, `ways`; then `laws`.
 #![tactic(auto)]
 
 mod counts;
@@ -8,6 +8,7 @@ pub mod drawing;
 pub mod laws;
 mod lines;
 pub mod prefixes;
+mod shares;
 mod ways;
 mod words;
 

@@ -1,13 +1,14 @@
 //! The lines of a drawing. Each function appends to one growing buffer; where memory runs out it stops.
-ghost use Rattle.std.specs.Prelude.{◌≡◌, ◌<◌, ◌++◌, OnOk, Some, codes, length};
+ghost use Rattle.std.specs.Prelude.{◌≡◌, ◌<◌, ◌++◌, OnOk, codes, flat_map, length};
 ghost use Rattle.vg_model.specs.Graph.{slots};
 ghost use Rattle.vg_draw.specs.Prefixes.{seen};
-ghost use Rattle.vg_draw.specs.Drawing.{id, dashed, leaving, kind_text, grey_text, down_text, node_line, arc_line, drop_text, drop_line, drop_lines, state_text, interface_label, interface_line, adjacency_label, adjacency_line, generation_label, head_text};
+ghost use Rattle.vg_draw.specs.Drawing.{id, dashed, leaving, kind_text, down_text, node_line, arc_line, drop_text, drop_line, drop_lines, state_text, interface_label, interface_line, adjacency_label, adjacency_line, generation_label, head_text};
 
 use crate::counts::{
-    carries_nothing, is_unvisited, put_began, put_interface_counts, put_node_counts,
+    arc_count, is_unvisited, packets_of, passed_count, put_began, put_node_counts, sent_count,
 };
 use crate::prefixes::{Routes, put_prefixes};
+use crate::shares::{put_carrying, put_grey, put_sent, put_share};
 use crate::words::{put, put_decimal, put_id, put_kind, put_mac, slot_name};
 use std::alloc::AllocError;
 use vg_model::{Adjacency, DropError, Interface, Kind, Name};
@@ -49,24 +50,39 @@ pub fn put_head(
     )
 }
 
-// Appends a dashed line from a node.
-fn put_dashed(out: &mut Vec<u8>, number: u16, target: &[u8]) -> Result<(), AllocError>
-    ensures { OnOk result (out.new.items ≡ out.old.items ++ dashed number target.now) }
+// Appends a dashed line from a node, by what it carried.
+fn put_dashed(
+    out: &mut Vec<u8>,
+    packets: u64,
+    number: u16,
+    target: &[u8],
+    count: Option<u64>,
+) -> Result<(), AllocError>
+    ensures { OnOk result (out.new.items ≡ out.old.items ++ dashed packets number target.now count) }
 {
     put(out, b" ")?;
     put_id(out, b'n', number)?;
     put(out, b" -> ")?;
     put(out, target)?;
-    put(out, b" [style=dashed];")
+    put(out, b" [style=dashed")?;
+    put_share(out, packets, count)?;
+    put(out, b"];")
 }
 
 // Appends where packets go from a node other than over its arcs.
-fn put_leaving(out: &mut Vec<u8>, number: u16, kind: Kind) -> Result<(), AllocError>
-    ensures { OnOk result (out.new.items ≡ out.old.items ++ leaving number kind) }
+fn put_leaving(
+    out: &mut Vec<u8>,
+    report: &Option<Report>,
+    number: u16,
+    name: &Name,
+    kind: Kind,
+) -> Result<(), AllocError>
+    ensures { OnOk result (out.new.items ≡ out.old.items ++ leaving report.now number name.now kind) }
 {
+    let packets = packets_of(report);
     match kind {
-        Kind::InterfaceTx => put_dashed(out, number, b"wire"),
-        Kind::WorkerHandoff(_) => put_dashed(out, number, b"n1"),
+        Kind::InterfaceTx => put_dashed(out, packets, number, b"wire", passed_count(report, name)),
+        Kind::WorkerHandoff(_) => put_dashed(out, packets, number, b"n1", None),
         _ => Ok(()),
     }
 }
@@ -78,17 +94,6 @@ fn put_begin(out: &mut Vec<u8>, letter: u8, number: u16, shape: &[u8]) -> Result
     put(out, b"  ")?;
     put_id(out, letter, number)?;
     put(out, shape)
-}
-
-// Appends the color grey where nothing came. A report counts by node, so both arcs of a node have one color.
-fn put_grey(out: &mut Vec<u8>, nothing: bool) -> Result<(), AllocError>
-    ensures { OnOk result (out.new.items ≡ out.old.items ++ grey_text nothing) }
-{
-    if nothing {
-        put(out, b", color=grey, fontcolor=grey")
-    } else {
-        Ok(())
-    }
 }
 
 // Appends the kind of a node as a further line of its label, where its name is another word.
@@ -121,7 +126,7 @@ pub fn put_node_line(
     put(out, b"\"")?;
     put_grey(out, is_unvisited(report, name))?;
     put(out, b"];")?;
-    put_leaving(out, number, kind)?;
+    put_leaving(out, report, number, name, kind)?;
     put(out, b"\n")
 }
 
@@ -140,56 +145,60 @@ pub fn put_arc_line(
 {
     put_begin(out, b'n', number, b" -> ")?;
     put_id(out, b'n', target)?;
-    put(out, b" [label=\"")?;
-    put(out, slot_name(kind, slot).as_bytes())?;
-    put(out, b"\"")?;
-    put_grey(out, carries_nothing(report, name))?;
+    put(out, b" [")?;
+    put_carrying(
+        out,
+        packets_of(report),
+        slot_name(kind, slot).as_bytes(),
+        arc_count(report, name, kind),
+    )?;
     put(out, b"];\n")
 }
 
 // Appends a red line from a node to the node that drops, with an error and its count.
 fn put_drop_text(
     out: &mut Vec<u8>,
+    packets: u64,
     number: u16,
     error: DropError,
     count: u64,
 ) -> Result<(), AllocError>
-    ensures { OnOk result (out.new.items ≡ out.old.items ++ drop_text number error count) }
+    ensures { OnOk result (out.new.items ≡ out.old.items ++ drop_text packets number error count) }
 {
-    put_begin(out, b'n', number, b" -> n8 [label=\"")?;
-    put(out, error.word().as_bytes())?;
-    put(out, b" ")?;
-    put_decimal(out, count)?;
-    put(out, b"\", color=red, fontcolor=red];\n")
+    put_begin(out, b'n', number, b" -> n8 [")?;
+    put_carrying(out, packets, error.word().as_bytes(), Some(count))?;
+    put(out, b", color=red, fontcolor=red];\n")
 }
 
 // Appends the line of a drop, where it is the node's.
 fn put_drop(
     out: &mut Vec<u8>,
+    packets: u64,
     number: u16,
     name: &Name,
     entry: &(Name, DropError, u64),
 ) -> Result<(), AllocError>
-    ensures { OnOk result (out.new.items ≡ out.old.items ++ drop_line number name.now entry.now) }
+    ensures { OnOk result (out.new.items ≡ out.old.items ++ drop_line packets number name.now entry.now) }
 {
     if entry.0 == *name {
-        put_drop_text(out, number, entry.1, entry.2)
+        put_drop_text(out, packets, number, entry.1, entry.2)
     } else {
         Ok(())
     }
 }
 
-// Appends the lines of a node's drops.
-fn put_report_drops(
+// Appends the lines of those of these drops that are the node's.
+fn put_drops_of(
     out: &mut Vec<u8>,
-    report: &Report,
+    packets: u64,
+    errors: &[(Name, DropError, u64)],
     number: u16,
     name: &Name,
 ) -> Result<(), AllocError>
-    ensures { OnOk result (out.new.items ≡ out.old.items ++ drop_lines (Some report.now) number name.now) }
+    ensures { OnOk result (out.new.items ≡ out.old.items ++ flat_map (drop_line packets number name.now) errors.now) }
 {
-    for entry in report.errors.as_slice() {
-        put_drop(out, number, name, entry)?;
+    for entry in errors {
+        put_drop(out, packets, number, name, entry)?;
     }
     Ok(())
 }
@@ -205,7 +214,10 @@ pub fn put_drop_lines(
 {
     match report {
         None => Ok(()),
-        Some(report) => put_report_drops(out, report, number, name),
+        Some(report) => {
+            let packets = report.packets.len() as u64;
+            put_drops_of(out, packets, report.errors.as_slice(), number, name)
+        }
     }
 }
 
@@ -218,20 +230,15 @@ fn put_state(out: &mut Vec<u8>, up: bool, filter: bool) -> Result<(), AllocError
 }
 
 // Appends the label of an interface.
-fn put_interface_label(
-    out: &mut Vec<u8>,
-    report: &Option<Report>,
-    interface: &Interface,
-) -> Result<(), AllocError>
-    ensures { OnOk result (out.new.items ≡ out.old.items ++ interface_label report.now interface.now) }
+fn put_interface_label(out: &mut Vec<u8>, interface: &Interface) -> Result<(), AllocError>
+    ensures { OnOk result (out.new.items ≡ out.old.items ++ interface_label interface.now) }
 {
     put(out, interface.name.bytes())?;
     put(out, b"\\n")?;
     put_mac(out, interface.mac)?;
     put(out, b"\\nmtu ")?;
     put_decimal(out, u64::from(interface.mtu))?;
-    put_state(out, interface.up, interface.filter)?;
-    put_interface_counts(out, report, &interface.name)
+    put_state(out, interface.up, interface.filter)
 }
 
 // Appends the color red where an interface is down.
@@ -245,7 +252,7 @@ fn put_down(out: &mut Vec<u8>, up: bool) -> Result<(), AllocError>
     }
 }
 
-/// Appends the line of an interface, red where it is down.
+/// Appends the line of an interface, red where it is down, and the dashed line to it.
 pub fn put_interface_line(
     out: &mut Vec<u8>,
     report: &Option<Report>,
@@ -255,12 +262,14 @@ pub fn put_interface_line(
     ensures { OnOk result (out.new.items ≡ out.old.items ++ interface_line report.now number interface.now) }
 {
     put_begin(out, b'i', number, b" [shape=house, label=\"")?;
-    put_interface_label(out, report, interface)?;
+    put_interface_label(out, interface)?;
     put(out, b"\"")?;
     put_down(out, interface.up)?;
     put(out, b"]; wire -> ")?;
     put_id(out, b'i', number)?;
-    put(out, b" [style=dashed];\n")
+    put(out, b" [style=dashed")?;
+    put_sent(out, packets_of(report), sent_count(report, &interface.name))?;
+    put(out, b"];\n")
 }
 
 // Appends the label of a neighbor: its name, its address, and the prefixes that are routed over it.
@@ -289,7 +298,7 @@ pub fn put_adjacency_line(
 ) -> Result<(), AllocError>
     ensures { OnOk result (out.new.items ≡ out.old.items ++ adjacency_line (seen before.entry) (seen routes.entry) number adjacency.now) }
 {
-    put_begin(out, b'a', number, b" [shape=ellipse, label=<")?;
+    put_begin(out, b'a', number, b" [style=rounded, label=<")?;
     put_adjacency_label(out, before, routes, number, adjacency)?;
     put(out, b">]; ")?;
     put_id(out, b'i', adjacency.interface)?;

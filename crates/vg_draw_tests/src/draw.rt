@@ -44,12 +44,12 @@ fn the_start_graph_is_drawn(rt: HostRuntime) -> Result<(), Fail> {
   n5 [label=\"ip4-rewrite\"];
   n6 [label=\"interface-output\"];
   n7 [label=\"interface-tx\"]; n7 -> wire [style=dashed];
-  n0 -> n2 [label=\"out\"];
-  n2 -> n3 [label=\"ip4\"];
-  n3 -> n4 [label=\"lookup\"];
-  n4 -> n5 [label=\"rewrite\"];
-  n5 -> n6 [label=\"output\"];
-  n6 -> n7 [label=\"tx\"];
+  n0 -> n2 [label=\" out\"];
+  n2 -> n3 [label=\" ip4\"];
+  n3 -> n4 [label=\" lookup\"];
+  n4 -> n5 [label=\" rewrite\"];
+  n5 -> n6 [label=\" output\"];
+  n6 -> n7 [label=\" tx\"];
   i0 [shape=house, label=\"pg0\\n02:fe:00:00:00:00\\nmtu 9000 up\"]; wire -> i0 [style=dashed];
 }
 ";
@@ -100,13 +100,13 @@ fn kinds_with_a_number_and_with_two_slots_are_drawn(rt: HostRuntime) -> Result<(
     let nodes = "  n9 [label=\"cut\\ndot1q-match-100\"];
   n10 [label=\"both\\nethernet-dual\"];
   n11 [label=\"cross\\nxconnect-3\"];
-  n0 -> n9 [label=\"out\"];
+  n0 -> n9 [label=\" out\"];
 ";
-    let arcs = "  n9 -> n10 [label=\"match\"];
-  n9 -> n2 [label=\"else\"];
-  n10 -> n3 [label=\"ip4\"];
-  n10 -> n11 [label=\"ip6\"];
-  n11 -> n6 [label=\"out\"];
+    let arcs = "  n9 -> n10 [label=\" match\"];
+  n9 -> n2 [label=\" else\"];
+  n10 -> n3 [label=\" ip4\"];
+  n10 -> n11 [label=\" ip6\"];
+  n11 -> n6 [label=\" out\"];
   i0 [";
     assert!(rt; has(&text, nodes));
     assert!(rt; has(&text, arcs));
@@ -138,7 +138,7 @@ end
 ";
 
 #[test]
-fn both_arcs_of_a_node_have_one_color(rt: HostRuntime) -> Result<(), Fail> {
+fn arcs_have_a_count_where_it_is_known(rt: HostRuntime) -> Result<(), Fail> {
     let alloc = rt.alloc();
     let report = read_report(alloc, COUNTED).map_err(|_| "a faulty report")?;
     let text = drawn(&rt, alloc, TAGGED, &Some(report))?;
@@ -146,13 +146,13 @@ fn both_arcs_of_a_node_have_one_color(rt: HostRuntime) -> Result<(), Fail> {
   n10 [label=\"both\\nethernet-dual\\nvisits 3\"];
   n11 [label=\"cross\\nxconnect-3\\nvisits 0\", color=grey, fontcolor=grey];
 ";
-    let arcs = "  n9 -> n10 [label=\"match\"];
-  n9 -> n2 [label=\"else\"];
-  n10 -> n3 [label=\"ip4\", color=grey, fontcolor=grey];
-  n10 -> n11 [label=\"ip6\", color=grey, fontcolor=grey];
+    let arcs = "  n9 -> n10 [label=\" match\"];
+  n9 -> n2 [label=\" else\"];
+  n10 -> n3 [label=\" ip4 0\", color=grey, fontcolor=grey];
+  n10 -> n11 [label=\" ip6 0\", color=grey, fontcolor=grey];
 ";
-    let drops = "  n9 -> n8 [label=\"bad-length 2\", color=red, fontcolor=red];
-  n10 -> n8 [label=\"unknown-type 3\", color=red, fontcolor=red];
+    let drops = "  n9 -> n8 [label=\" bad-length 2\", penwidth=1, color=red, fontcolor=red];
+  n10 -> n8 [label=\" unknown-type 3\", penwidth=1, color=red, fontcolor=red];
   i0 [";
     assert!(rt; has(&text, nodes));
     assert!(rt; has(&text, arcs));
@@ -174,7 +174,7 @@ fn a_kind_is_drawn_by_its_name_where_scripts_have_no_word(rt: HostRuntime) -> Re
     let mut out = Vec::new(rt.alloc());
     draw(&mut out, &None, 0, 0, none(), &graph, none())?;
     assert!(rt; has(&out, "  n9 [label=\"far\\nxconnect-200\"];\n"));
-    assert!(rt; has(&out, "  n9 -> n8 [label=\"out\"];\n"));
+    assert!(rt; has(&out, "  n9 -> n8 [label=\" out\"];\n"));
     assert!(rt; has(&out, "  n8 [label=\"error-drop\"];\n"));
     Ok(())
 }
@@ -198,9 +198,9 @@ fn a_neighbor_has_the_prefixes_that_are_routed_over_it(rt: HostRuntime) -> Resul
     let text = drawn(&rt, rt.alloc(), ROUTED, &None)?;
     let end = "
   i0 [shape=house, label=\"pg0\\n02:fe:00:00:00:00\\nmtu 9000 down\", color=red, fontcolor=red]; wire -> i0 [style=dashed];
-  a0 [shape=ellipse, label=<a<BR/>02:00:00:00:00:0a<BR/>10.1.0.0/16<BR/>10.2.0.0/16>]; i0 -> a0 [style=dashed];
-  a1 [shape=ellipse, label=<b<BR/>02:00:00:00:00:0b<BR/>10.2.0.0/16<BR/>2001:db8::/32<BR/>2001:db8:0:0:1:0:0:abcd/128<BR/>::/0>]; i0 -> a1 [style=dashed];
-  a2 [shape=ellipse, label=<c<BR/>02:00:00:00:00:0c>]; i0 -> a2 [style=dashed];
+  a0 [style=rounded, label=<a<BR/>02:00:00:00:00:0a<BR/>10.1.0.0/16<BR/>10.2.0.0/16>]; i0 -> a0 [style=dashed];
+  a1 [style=rounded, label=<b<BR/>02:00:00:00:00:0b<BR/>10.2.0.0/16<BR/>2001:db8::/32<BR/>2001:db8:0:0:1:0:0:abcd/128<BR/>::/0>]; i0 -> a1 [style=dashed];
+  a2 [style=rounded, label=<c<BR/>02:00:00:00:00:0c>]; i0 -> a2 [style=dashed];
 }
 ";
     assert!(rt; text.ends_with(end.as_bytes()));

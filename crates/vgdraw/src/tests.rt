@@ -57,38 +57,38 @@ fn all_generations_are_drawn(rt: HostRuntime) -> Result<(), Fail> {
     assert_eq!(rt; status, 0);
     assert!(rt; has(&text, "digraph \"generation 0\" {\n"));
     assert!(rt; has(&text, "digraph \"generation 1\" {\n"));
-    assert!(rt; has(&text, "  n2 -> n3 [label=\"ip4\"];\n"));
-    assert!(rt; has(&text, "  n2 -> n7 [label=\"ip4\"];\n"));
+    assert!(rt; has(&text, "  n2 -> n3 [label=\" ip4 2\", penwidth=1];\n"));
+    assert!(rt; has(&text, "  n2 -> n7 [label=\" ip4 2\", penwidth=1];\n"));
     assert!(rt; has(&text, "  n2 [label=\"ethernet-input\\nvisits 3\"];\n"));
     assert!(rt;
         has(
             &text,
-            "  n2 -> n8 [label=\"short 1\", color=red, fontcolor=red];\n"
+            "  n2 -> n8 [label=\" short 1\", penwidth=1, color=red, fontcolor=red];\n"
         )
     );
-    assert!(rt; has(&text, "  n3 -> n4 [label=\"lookup\"];\n"));
+    assert!(rt; has(&text, "  n3 -> n4 [label=\" lookup 1\", penwidth=1];\n"));
     assert!(rt;
         has(
             &text,
-            "  n5 -> n6 [label=\"output\", color=grey, fontcolor=grey];\n"
-        )
-    );
-    assert!(rt;
-        has(
-            &text,
-            "  i0 [shape=house, label=\"pg0\\n02:fe:00:00:00:00\\nmtu 9000 up\\ntx 1\"]; wire -> i0 [style=dashed];\n"
+            "  n5 -> n6 [label=\" output 0\", color=grey, fontcolor=grey];\n"
         )
     );
     assert!(rt;
         has(
             &text,
-            "  a0 [shape=ellipse, label=<east<BR/>02:00:00:00:00:09<BR/>10.0.0.0/8>]; i0 -> a0 [style=dashed];\n"
+            "  i0 [shape=house, label=\"pg0\\n02:fe:00:00:00:00\\nmtu 9000 up\"]; wire -> i0 [style=dashed, label=\" tx 1\", penwidth=1];\n"
         )
     );
     assert!(rt;
         has(
             &text,
-            "  a0 [shape=ellipse, label=<east<BR/>02:00:00:00:00:09<BR/>10.0.0.0/8<BR/><B>11.0.0.0/8</B>>]; i0 -> a0 [style=dashed];\n"
+            "  a0 [style=rounded, label=<east<BR/>02:00:00:00:00:09<BR/>10.0.0.0/8>]; i0 -> a0 [style=dashed];\n"
+        )
+    );
+    assert!(rt;
+        has(
+            &text,
+            "  a0 [style=rounded, label=<east<BR/>02:00:00:00:00:09<BR/>10.0.0.0/8<BR/><B>11.0.0.0/8</B>>]; i0 -> a0 [style=dashed];\n"
         )
     );
     assert!(rt; has(&text, "  label=\"generation 0, from 0 us, 0 packets\";\n"));
@@ -138,15 +138,15 @@ arc both ip4 ip4-input
     assert_eq!(rt; status, 0);
     for line in [
         "  label=\"generation 0, from 0 us, 2 packets\";\n",
-        "  a0 [shape=ellipse, label=<e0<BR/>02:00:00:00:00:10<BR/>10.1.0.0/16<BR/>2001:db8::/32>]; i0 -> a0 [style=dashed];\n",
-        "  a1 [shape=ellipse, label=<e1<BR/>02:00:00:00:00:11<BR/>10.1.0.0/16<BR/>2001:db8::/32>]; i0 -> a1 [style=dashed];\n",
-        "  i0 [shape=house, label=\"pg0\\n02:fe:00:00:00:00\\nmtu 9000 up\\ntx 2\"]; wire -> i0 [style=dashed];\n",
-        "  n4 -> n5 [label=\"rewrite\"];\n",
+        "  a0 [style=rounded, label=<e0<BR/>02:00:00:00:00:10<BR/>10.1.0.0/16<BR/>2001:db8::/32>]; i0 -> a0 [style=dashed];\n",
+        "  a1 [style=rounded, label=<e1<BR/>02:00:00:00:00:11<BR/>10.1.0.0/16<BR/>2001:db8::/32>]; i0 -> a1 [style=dashed];\n",
+        "  i0 [shape=house, label=\"pg0\\n02:fe:00:00:00:00\\nmtu 9000 up\"]; wire -> i0 [style=dashed, label=\" tx 2\", penwidth=5];\n",
+        "  n4 -> n5 [label=\" rewrite 2\", penwidth=5];\n",
         "  n9 [label=\"cut\\ndot1q-match-100\\nvisits 0\", color=grey, fontcolor=grey];\n",
-        "  n9 -> n8 [label=\"match\", color=grey, fontcolor=grey];\n",
-        "  n9 -> n10 [label=\"else\", color=grey, fontcolor=grey];\n",
-        "  n10 -> n3 [label=\"ip4\", color=grey, fontcolor=grey];\n",
-        "  n10 -> n8 [label=\"ip6\", color=grey, fontcolor=grey];\n",
+        "  n9 -> n8 [label=\" match 0\", color=grey, fontcolor=grey];\n",
+        "  n9 -> n10 [label=\" else 0\", color=grey, fontcolor=grey];\n",
+        "  n10 -> n3 [label=\" ip4 0\", color=grey, fontcolor=grey];\n",
+        "  n10 -> n8 [label=\" ip6 0\", color=grey, fontcolor=grey];\n",
     ] {
         assert!(rt; has(&text, line), "{line}");
     }

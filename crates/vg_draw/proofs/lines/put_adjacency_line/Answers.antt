@@ -16,7 +16,7 @@ returns c =
       c.in_ok-put_id.ensures,
       c.in_ok-put-2.ensures,
       c.in_ok-put_id-2.ensures,
-      six_behind c.args.out.now.items (codes "  ") (adjacency_id c.args.number) (codes " [shape=ellipse, label=<")
+      six_behind c.args.out.now.items (codes "  ") (adjacency_id c.args.number) (codes " [style=rounded, label=<")
           (adjacency_label (seen c.args.before) (seen c.args.routes) c.args.number c.args.adjacency.now) (codes ">]; ") (interface_id c.args.adjacency.now.interface) (codes " -> ")
           (adjacency_id c.args.number) (codes " [style=dashed];" ++ 10 ∷ []),
     )) c.put-3.ensures

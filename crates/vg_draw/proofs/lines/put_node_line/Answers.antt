@@ -21,5 +21,5 @@ returns c =
       c.in_ok-put_leaving.ensures,
       eight_behind c.args.out.now.items (codes "  ") (node_id c.args.number) (codes " [label=" ++ 34 ∷ []) c.args.name.now (kind_text c.args.name.now c.args.kind)
           (node_counts c.args.report.now c.args.name.now) (34 ∷ []) (grey_text (is_unvisited c.args.report.now c.args.name.now)) (codes "];")
-          (leaving c.args.number c.args.kind) (10 ∷ []),
+          (leaving c.args.report.now c.args.number c.args.name.now c.args.kind) (10 ∷ []),
     )) c.put-4.ensures

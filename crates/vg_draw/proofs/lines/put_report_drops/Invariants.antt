@@ -1,6 +1,0 @@
-use Rattle.std.proofs.Common.{◌≡◌, ◌++◌, take, flat_map}
-use Rattle.vg_draw.specs.Drawing.{drop_line}
-use Rattle.vg_draw.proofs.lines.put_report_drops.Given as goal
-
-abbrev pub invariant-loop-entry : goal.invariant-loop-entry
-invariant-loop-entry l = l.out.items ≡ l.initial.out.items ++ flat_map (drop_line l.number l.name) (take l.entry-index l.entry-items)
