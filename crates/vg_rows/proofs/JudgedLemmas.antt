@@ -14,8 +14,9 @@ one_more (r ∷ rs) [] row more all one = absurd all
 one_more (r ∷ rs) (j ∷ js) row more all one = (all.0, one_more rs js row more all.1 one)
 
 -- the row of the next number
-pub judged_more : (rows : List Row) (i : ℕ) (d : Row) (before after : List Judged) (more : Judged)
-    → i < length rows → AreJudged (take i rows) before → IsJudged (get_or rows i d) more → after ≡ before ++ more ∷ [] → AreJudged (take (i + 1) rows) after
-judged_more rows i d before after more below so_far is are =
+pub judged_more : (rows : List Row) (i : ℕ) (row : Row) (before after : List Judged) (more : Judged)
+    → i < length rows → row ≡ get_or rows i row → AreJudged (take i rows) before → IsJudged row more → after ≡ before ++ more ∷ [] → AreJudged (take (i + 1) rows) after
+judged_more rows i row before after more below read so_far is are =
     subst (λ js. AreJudged (take (i + 1) rows) js) (sym are)
-    (subst (λ rs. AreJudged rs (before ++ more ∷ [])) (sym (take_more rows i d below)) (one_more (take i rows) before (get_or rows i d) more so_far is))
+    (subst (λ rs. AreJudged rs (before ++ more ∷ [])) (sym (take_more rows i row below))
+    (one_more (take i rows) before (get_or rows i row) more so_far (subst (λ r. IsJudged r more) read is)))
