@@ -1,3 +1,4 @@
+-- `count_began`, how many packets began in a generation: the loop over the packets.
 use Rattle.std.proofs.Common.{◌≡◌, ◌≤◌, take}
 use Rattle.std.specs.Prelude.{count_by}
 use Rattle.vg_draw.specs.Drawing.{began_in}

@@ -1,3 +1,4 @@
+-- `put_adjacencies`, the lines of the neighbors.
 use Rattle.vg_draw.specs.Prefixes.{seen}
 use Rattle.vg_draw.specs.Drawing.{adjacency_line}
 use Rattle.vg_draw.proofs.LineLemmas.{one_more_line}

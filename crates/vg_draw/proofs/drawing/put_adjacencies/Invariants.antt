@@ -1,3 +1,4 @@
+-- `put_adjacencies`, the lines of the neighbors: the loop over their numbers.
 use Rattle.std.proofs.Common.{◌≡◌, ◌++◌, take}
 use Rattle.vg_draw.specs.Prefixes.{seen}
 use Rattle.vg_draw.specs.Drawing.{adjacency_lines}

@@ -1,3 +1,4 @@
+-- `put_drawn_lines`, the lines of the nodes: the loop over their numbers.
 use Rattle.std.proofs.Common.{◌≡◌, ◌++◌, take}
 use Rattle.vg_draw.specs.Drawing.{drawn_lines}
 use Rattle.vg_draw.proofs.drawing.put_drawn_lines.Given as goal

@@ -1,3 +1,4 @@
+-- `put_drops`, the lines of all drops: the loop over the nodes.
 use Rattle.std.proofs.Common.{◌≡◌, ◌++◌, take}
 use Rattle.vg_draw.specs.Drawing.{all_drop_lines}
 use Rattle.vg_draw.proofs.drawing.put_drops.Given as goal

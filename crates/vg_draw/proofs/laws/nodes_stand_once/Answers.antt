@@ -1,3 +1,4 @@
+-- `nodes_stand_once`, the law.
 use Rattle.vg_model.specs.Graph.{Node}
 use Rattle.vg_draw.specs.Drawing.{ways_of, drawn_line}
 use Rattle.vg_draw.proofs.OnceLemmas.{length-numbered, numbered_from_zero}

@@ -1,3 +1,4 @@
+-- `put_head`, the first lines.
 use Rattle.std.proofs.Common.{◌∷◌, [], ◌++◌, decimal}
 use Rattle.std.specs.Prelude.{codes}
 use Rattle.std.proofs.lemmas.Result.{on_ok_weaker}

@@ -1,3 +1,4 @@
+-- `put_node_line`, the line of a node.
 use Rattle.std.proofs.Common.{◌∷◌, []}
 use Rattle.std.specs.Prelude.{codes, ◌++◌}
 use Rattle.std.proofs.lemmas.Result.{on_ok_weaker}

@@ -1,3 +1,4 @@
+-- `put_groups`, groups parted by `:`: the loop over them.
 use Rattle.std.proofs.Common.{◌≡◌, ◌++◌, ◌∷◌, take, flat_map}
 use Rattle.vg_draw.specs.Prefixes.{group_text}
 use Rattle.vg_draw.proofs.prefixes.put_groups.Given as goal

@@ -1,3 +1,4 @@
+-- `put_ip4`, the lines of the routes of IPv4 at a neighbor: the loop over the routes.
 use Rattle.std.proofs.Common.{take}
 use Rattle.vg_model.specs.Route.{ip4}
 use Rattle.vg_draw.specs.Prefixes.{prefix_text, lines_over}

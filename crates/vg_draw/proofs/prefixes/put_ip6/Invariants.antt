@@ -1,3 +1,4 @@
+-- `put_ip6`, the lines of the routes of IPv6 at a neighbor: the loop over the routes.
 use Rattle.std.proofs.Common.{take}
 use Rattle.vg_model.specs.Route.{ip6}
 use Rattle.vg_draw.specs.Prefixes.{prefix6_text, lines_over}

@@ -1,3 +1,4 @@
+-- `put_parts`, numbers parted by `.`: the loop over them.
 use Rattle.std.proofs.Common.{◌≡◌, ◌++◌, ◌∷◌, decimal, take, flat_map}
 use Rattle.vg_draw.proofs.prefixes.put_parts.Given as goal
 

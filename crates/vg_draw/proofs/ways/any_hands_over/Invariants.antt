@@ -1,3 +1,4 @@
+-- `any_hands_over`, whether a node hands packets over: the loop over the nodes.
 use Rattle.std.proofs.Common.{◌≡◌, take}
 use Rattle.std.specs.Prelude.{false}
 use Rattle.vg_draw.specs.Drawing.{any_hands_over}

@@ -1,3 +1,4 @@
+-- `leads_to_drop`, whether an arc leads to the node that drops: the loop over the slots.
 use Rattle.std.proofs.Common.{◌≡◌, take}
 use Rattle.std.specs.Prelude.{false}
 use Rattle.vg_model.specs.Graph.{next_nodes}

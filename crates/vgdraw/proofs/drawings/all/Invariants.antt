@@ -1,3 +1,4 @@
+-- `all`, the drawings of all generations: the loop over them.
 use Rattle.std.proofs.Common.{◌≡◌, ◌-◌, ◌≤◌, take, drop}
 use Rattle.vg_draw.specs.Drawing.{numbered, all_of}
 use Rattle.vgdraw.specs.Drawn.{generation_drawing}
