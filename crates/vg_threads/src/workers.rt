@@ -1,5 +1,5 @@
 //! The workers of a run, in threads while main leads them.
-ghost use Rattle.std.specs.Prelude.{◌≡◌, map, IfOk, vec_len};
+ghost use Rattle.std.specs.Prelude.{◌≡◌, ◌≤◌, [], map, IfOk, vec_len, vec_capacity};
 ghost use Rattle.std.specs.List.{AllByRecursion};
 ghost use Rattle.vg_dispatch.specs.Standing.{barrier_id};
 ghost use Rattle.vg_threads.specs.Leads.{IsMain};
@@ -8,8 +8,9 @@ ghost use Rattle.vg_threads.specs.Ties.{IsWorkerAt, AreTied, tie_of};
 use crate::driving::run_team;
 use crate::mains::Main;
 use crate::posts::Posts;
+use crate::started::Started;
 use crate::teams::{Joined, Team, tie_all, untie_all};
-use crate::tied::TiedMain;
+use crate::tied::{Tied, TiedMain};
 use std::alloc::Global;
 use std::sync::Wait;
 use std::sync::ledger::Ledger;
@@ -21,6 +22,33 @@ use vg_model::Memory;
 use vg_nodes::KindSet;
 use vg_outside::Gate;
 use vg_pool::{LockedPool, PoolLedger};
+
+/// Room for so many: workers that are tied, started, joined and untied again. It is taken here, where no worker is, so that a want of memory
+/// has nothing else to drop.
+fn rooms_for<'a, K: KindSet, H: Handoff<HandFrame>, T: PoolLedger, L: Ledger>(
+    alloc: Global,
+    count: usize,
+) -> Result<
+    (
+        Vec<Tied<'a, K, H, T, L>>,
+        Vec<Started<'a, K, H, T, L>>,
+        Vec<Tied<'a, K, H, T, L>>,
+        Vec<Worker<K, H, T, L>>,
+    ),
+    Memory,
+>
+    ensures tied { IfOk result (λ rooms. (rooms.0.items ≡ []) × (count ≤ vec_capacity rooms.0)) }
+    ensures started { IfOk result (λ rooms. (rooms.1.items ≡ []) × (count ≤ vec_capacity rooms.1)) }
+    ensures joined { IfOk result (λ rooms. (rooms.2.items ≡ []) × (count ≤ vec_capacity rooms.2)) }
+    ensures untied { IfOk result (λ rooms. (rooms.3.items ≡ []) × (count ≤ vec_capacity rooms.3)) }
+{
+    Ok((
+        Vec::with_capacity(alloc, count)?,
+        Vec::with_capacity(alloc, count)?,
+        Vec::with_capacity(alloc, count)?,
+        Vec::with_capacity(alloc, count)?,
+    ))
+}
 
 /// Runs the workers in threads of their own while main leads them, until their threads have ended. All memory for what becomes of
 /// them is taken before the first is started.
@@ -56,11 +84,9 @@ pub fn run_workers<
     ensures workers { IfOk result (λ run. AreTied K.meaning H.LOSSLESS
         (map (tie_of input.entry.now.plan.now input.entry.now.capture.now input.entry.now.options.now (barrier_id barrier.entry.now)) workers.items) run.1.items) }
 {
-    let count = workers.len();
-    let tied = Vec::with_capacity(alloc, count)?;
-    let started = Vec::with_capacity(alloc, count)?;
-    let joined = Vec::with_capacity(alloc, count)?;
-    let room = Vec::with_capacity(alloc, count)?;
+    let Ok((tied, started, joined, room)) = rooms_for(alloc, workers.len()) else {
+        return Err(Memory);
+    };
     let workers = tie_all(workers, tied, input, barrier, pool);
     let Joined { workers, main } = run_team(Team {
         rt,

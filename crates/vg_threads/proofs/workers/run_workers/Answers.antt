@@ -1,3 +1,4 @@
+-- For the clauses of `run_workers`: main and the workers come back, and there was room for all.
 use Rattle.std.proofs.Common.{List, refl, subst, sym, ◌∙◌}
 use Rattle.vg_dispatch.specs.Workers.{WorkerBook}
 use Rattle.vg_dispatch.specs.Standing.{barrier_id}
@@ -16,13 +17,13 @@ invariant_of-run_team g c =
     let tie : WorkerBook → Tie = tie_of input.plan.now input.capture.now input.options.now (barrier_id c.args.barrier.now) in
     let tied = c.tie_all-workers.result in
     let given = c.args.workers in
-    let count = sym (as_long tie given.items tied.items _ _ given.ok.0 tied.ok.0 (sym c.tie_all-workers.ensures)) ∙ sym c.len-count.ensures in
+    let count = sym (as_long tie given.items tied.items _ _ given.ok.0 tied.ok.0 (sym c.tie_all-workers.ensures)) ∙ sym c.len.ensures in
     record {
       rooms = (
-        c.in_ok-started.ensures.items,
-        has_room _ _ _ count c.in_ok-started.ensures.capacity,
-        c.in_ok-joined.ensures.items,
-        has_room _ _ _ count c.in_ok-joined.ensures.capacity,
+        c.in-Ok.ensures.started.0,
+        has_room _ _ _ count c.in-Ok.ensures.started.1,
+        c.in-Ok.ensures.joined.0,
+        has_room _ _ _ count c.in-Ok.ensures.joined.1,
       );
       posted = c.requires.posts ∙ as_long tie given.items tied.items _ _ given.ok.0 tied.ok.0 (sym c.tie_all-workers.ensures);
     }
@@ -34,8 +35,8 @@ untie_all-requires g c =
     let back = c.run_team-workers.result.workers in
     let given = c.args.workers in
     let same = sym c.tie_all-workers.ensures ∙ sym c.run_team-workers.ensures.workers in
-    let count = sym (as_long tie given.items back.items _ _ given.ok.0 back.ok.0 same) ∙ sym c.len-count.ensures in
-    record { room = (c.in_ok-room.ensures.items, has_room _ _ _ count c.in_ok-room.ensures.capacity) }
+    let count = sym (as_long tie given.items back.items _ _ given.ok.0 back.ok.0 same) ∙ sym c.len.ensures in
+    record { room = (c.in-Ok.ensures.untied.0, has_room _ _ _ count c.in-Ok.ensures.untied.1) }
 
 pub returns-clause-main : goal.returns-clause-main
 returns-clause-main g c =
