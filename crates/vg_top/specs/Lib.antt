@@ -6,3 +6,4 @@ pub mod Dues
 pub mod Expected
 pub mod Reported
 pub mod Accepted
+pub mod Loads

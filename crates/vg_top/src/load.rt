@@ -2,6 +2,7 @@
 ghost use Rattle.std.specs.Prelude.{◌≡◌, ◌≤◌, None, IfOk, IsOk, length};
 ghost use Rattle.vg_load.specs.Summary.{summary as summary_text};
 ghost use Rattle.vg_files.specs.Plan.{graphs_of};
+ghost use Rattle.vg_top.specs.Loads.{IsLoadRun, AreLoadRuns};
 
 use crate::dues::Due;
 use crate::run::run_workers;
@@ -41,6 +42,7 @@ fn run_load<R: Wait + Threads + Sync, G: Gate>(
     requires workers { (1 ≤ workers) × (workers ≤ 8) }
     ensures ended { IfOk result (λ counts. counts.ended ≡ length capture.now.packets) }
     ensures buffers { IfOk result (λ counts. counts.buffers ≡ 4096) }
+    ensures run { IfOk result (IsLoadRun script.now capture.now workers) }
 {
     let plan = match read_script(alloc, script.as_bytes()) {
         Ok(plan) => plan,
@@ -85,6 +87,7 @@ pub fn run_both<R: Wait + Threads + Sync, G: Gate>(
     ensures plain { IfOk result (λ counts. (counts.0.ended ≡ load.now.packets) × (counts.0.buffers ≡ 4096)) }
     ensures ended { IfOk result (λ counts. counts.1.ended ≡ load.now.packets) }
     ensures buffers { IfOk result (λ counts. counts.1.buffers ≡ 4096) }
+    ensures runs { IfOk result (λ counts. AreLoadRuns load.now.seed load.now.packets load.now.workers counts.0 counts.1) }
 {
     scripts_are_accepted();
     let capture = load_capture(alloc, load.seed, load.packets)?;

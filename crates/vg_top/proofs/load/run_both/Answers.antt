@@ -11,3 +11,11 @@ pub returns-clause-plain : goal.returns-clause-plain
 returns-clause-plain g c =
     let made = ap length c.in_ok-capture.ensures.made ∙ made_packets c.args.load.now.packets 0 c.args.load.now.seed in
     (c.in_ok-plain.ensures.ended ∙ made, c.in_ok-plain.ensures.buffers)
+
+pub returns-clause-runs : goal.returns-clause-runs
+returns-clause-runs g c = record {
+  capture = c.in_ok-capture.capture;
+  is_load = c.in_ok-capture.ensures;
+  is_plain = c.in_ok-plain.ensures.run;
+  is_handoff = c.in_ok-handoff.ensures.run;
+}
