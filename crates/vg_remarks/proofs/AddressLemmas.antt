@@ -1,0 +1,91 @@
+-- For `addresses`: the last address of a prefix, and what is known of prefixes.
+use Rattle.std.proofs.Common.{◌≡◌, ◌≢◌, ℕ, ◌+◌, ◌-◌, ◌*◌, ◌/◌, ◌%◌, ◌<◌, ◌≤◌, Bool, true, false, List, [], ◌∷◌, refl, sym, ap, ◌∙◌, inl, inr, arith}
+use Rattle.std.specs.Prelude.{◌^◌, ◌==◌, ◌&&◌, ◌||◌, nat_le, nat_lt, filter}
+use Rattle.std.proofs.Math.Nat.{div-div-eq-div-mul}
+use Rattle.std.proofs.lemmas.Bool.{cases_lt, lt-ltb, leb-true, eqb-true, false≢true}
+use Rattle.std.proofs.lemmas.Map.Views.{any-filter_same}
+use Rattle.std.proofs.lemmas.Nat.{pow_pos, pow-add, mod-pow-add, row_fits, mod_below}
+use Rattle.vg_model.specs.declared.routes.Prefix.{Prefix}
+use Rattle.vg_model.specs.Route.{covers_of, ip4}
+use Rattle.vg_remarks.specs.Addresses.{is_network, last_of, is_multicast, is_directed, is_led, has_group, is_special, may_be_special}
+
+-- a power of two is a product of two
+powers : (w j k : ℕ) → w ≡ j + k → 2 ^ w ≡ 2 ^ j * 2 ^ k
+powers w j k e = ap (λ w. 2 ^ w) e ∙ pow-add 2 j k
+
+-- the block of a multiple doesn't reach over the next higher power of two
+block_fits : (x w j k : ℕ) → w ≡ j + k → x % 2 ^ k ≡ 0 → x % 2 ^ w + 2 ^ k ≤ 2 ^ w
+block_fits x w j k e whole =
+    let at : x % 2 ^ w ≡ (x / 2 ^ k % 2 ^ j) * 2 ^ k + x % 2 ^ k = ap (λ w. x % 2 ^ w) e ∙ mod-pow-add x j k in
+    let row : (x / 2 ^ k % 2 ^ j) * 2 ^ k + 2 ^ k ≤ 2 ^ j * 2 ^ k =
+    row_fits (x / 2 ^ k % 2 ^ j) (2 ^ k) (2 ^ j) (2 ^ k) (mod_below (x / 2 ^ k) (2 ^ j) (pow_pos j)) (omega arith) in
+    omega (arith, at, row, powers w j k e, whole)
+
+-- the last address of a prefix has 32 bits
+pub last_fits : (addr len : ℕ) → len ≤ 32 → addr < 4294967296 → addr % 2 ^ (32 - len) ≡ 0 → addr + (2 ^ (32 - len) - 1) < 4294967296
+last_fits addr len few small whole =
+    let fits : addr % 2 ^ 32 + 2 ^ (32 - len) ≤ 2 ^ 32 = block_fits addr 32 len (32 - len) (omega arith) whole in
+    omega (arith, fits, pow_pos (32 - len))
+
+-- what two addresses have in common in their first bits they have in the first eight of them
+same_byte : (x y len : ℕ) → 8 ≤ len → len ≤ 32 → x / 2 ^ (32 - len) ≡ y / 2 ^ (32 - len) → x / 2 ^ 24 ≡ y / 2 ^ 24
+same_byte x y len long few e = narrower x ∙ (ap (λ q. q / 2 ^ (len - 8)) e ∙ sym (narrower y))
+  where
+    narrower : (z : ℕ) → z / 2 ^ 24 ≡ z / 2 ^ (32 - len) / 2 ^ (len - 8)
+    narrower z = ap (λ d. z / d) (powers 24 (32 - len) (len - 8) (omega arith)) ∙ sym (div-div-eq-div-mul z (2 ^ (32 - len)) (2 ^ (len - 8)))
+
+or_true : (b : Bool) → (b || true) ≡ true
+or_true true = refl
+or_true false = refl
+
+-- a prefix that covers an address of a class wherever it occurs is one of those that may
+covering : (prefix : Prefix) (address : ℕ) → is_special (address / 2 ^ 24) ≡ true → covers_of ip4 prefix address ≡ true → may_be_special prefix ≡ true
+covering prefix address special covers = elim (cases_lt prefix.len 8) [
+  | inl short ↦ ap (λ b. b || is_special (prefix.addr / 2 ^ 24)) (lt-ltb prefix.len 8 short)
+  | inr long ↦
+      let same = same_byte prefix.addr address prefix.len long prefix.few
+      (eqb-true (prefix.addr / 2 ^ (32 - prefix.len)) (address / 2 ^ (32 - prefix.len)) covers) in
+      ap (λ b. nat_lt prefix.len 8 || b) (ap is_special same ∙ special) ∙ or_true (nat_lt prefix.len 8)
+]
+
+-- so none of the others leads such an address
+pub led_special : (led : List Prefix) (address : ℕ) → is_special (address / 2 ^ 24) ≡ true → is_led (filter may_be_special led) address ≡ is_led led address
+led_special led address special = any-filter_same (λ prefix. covers_of ip4 prefix address) may_be_special true (λ prefix covers. covering prefix address special covers) led
+
+both : (a b : Bool) → (a && b) ≡ true → (a ≡ true) × (b ≡ true)
+both true b e = (refl, e)
+both false b e = absurd (false≢true e)
+
+pub group_special : (led : List Prefix) (address : ℕ) → is_special (address / 2 ^ 24) ≡ true → has_group (filter may_be_special led) address ≡ has_group led address
+group_special led address special =
+    any-filter_same (λ prefix. is_multicast prefix && covers_of ip4 prefix address) may_be_special true
+    (λ prefix group. covering prefix address special (both (is_multicast prefix) (covers_of ip4 prefix address) group).1) led
+
+-- the last address of a network ends with two bits that are set
+last_ends : (addr len : ℕ) → len ≤ 30 → addr % 2 ^ (32 - len) ≡ 0 → (addr + (2 ^ (32 - len) - 1)) % 4 ≡ 3
+last_ends addr len few whole =
+    let two : 2 ^ (32 - len) ≡ 2 ^ (30 - len) * 4 = powers (32 - len) (30 - len) 2 (omega arith) in
+    let at : addr % 2 ^ (32 - len) ≡ (addr / 4 % 2 ^ (30 - len)) * 4 + addr % 4 =
+    ap (λ w. addr % 2 ^ w) (let e : 32 - len ≡ (30 - len) + 2 = omega arith in e) ∙ mod-pow-add addr (30 - len) 2 in
+    omega (arith, two, at, whole, pow_pos (30 - len))
+
+-- the same of a network among others, where it holds of those behind it
+first_ends : (prefix : Prefix) (led : List Prefix) (address : ℕ) (b : Bool) → (is_network prefix && last_of prefix == address) ≡ b
+    → (is_directed led address ≡ true → address % 4 ≡ 3) → (b || is_directed led address) ≡ true → address % 4 ≡ 3
+first_ends prefix led address true is later e =
+    let network = both (is_network prefix) (last_of prefix == address) is in
+    let few : prefix.len ≤ 30 = leb-true prefix.len 30 (both (nat_le 1 prefix.len) (nat_le prefix.len 30) network.0).1 in
+    ap (λ n. n % 4) (sym (eqb-true (last_of prefix) address network.1)) ∙ last_ends prefix.addr prefix.len few prefix.host_bits
+first_ends prefix led address false is later e = later e
+
+directed_ends : (led : List Prefix) (address : ℕ) → is_directed led address ≡ true → address % 4 ≡ 3
+directed_ends [] address e = absurd (false≢true e)
+directed_ends (prefix ∷ led) address e = first_ends prefix led address (is_network prefix && last_of prefix == address) refl (directed_ends led address) e
+
+-- an address that doesn't is the last one of no network
+pub not_directed : (led : List Prefix) (address : ℕ) → address % 4 ≢ 3 → is_directed led address ≡ false
+not_directed led address other = found (is_directed led address) refl
+  where
+    found : (b : Bool) → is_directed led address ≡ b → b ≡ false
+    found true is = absurd (other (directed_ends led address is))
+    found false is = refl

@@ -1,0 +1,4 @@
+pub mod AddressLemmas
+pub mod FoundLemmas
+pub mod PacketLemmas
+pub mod StatementLemmas

@@ -1,0 +1,6 @@
+pub mod Addresses
+pub mod Found
+pub mod Late
+pub mod Packets
+pub mod Remarks
+pub mod Statements

@@ -1,0 +1,221 @@
+//! IPv4 addresses that a router does not forward to (RFC 1812, RFC 2644).
+ghost use Rattle.std.specs.Prelude.{◌≡◌, ◌==◌, ◌&&◌, ◌||◌, ◌/◌, ◌^◌, ℕ, true, List, [], ◌∷◌, ◌++◌, IfOk, OnOk, filter};
+ghost use Rattle.std.specs.BTreeSet.{contains_by};
+ghost use Rattle.std.specs.Ordering.{nat_cmp};
+ghost use Rattle.vg_model.specs.declared.routes.Prefix.{Prefix as PrefixValue};
+ghost use Rattle.vg_model.specs.Route.{covers_of, ip4};
+ghost use Rattle.vg_remarks.specs.Addresses.{class_of, destination as destination_of, has_group, is_directed as directed, is_led, is_multicast as multicast, is_network as network, is_special as special, last_of, may_be_special as may_cover_special, special_class as class_everywhere, IsKnown};
+
+use std::alloc::{AllocError, Global};
+use std::collections::BTreeSet;
+use vg_model::Prefix;
+use vg_packet::{u16_at, u32_at};
+
+/// A class of IPv4 addresses that a router does not forward to.
+#[derive(Clone, Copy, Debug, PartialEq, Eq)]
+pub enum Class {
+    /// 255.255.255.255 (RFC 1812, section 5.3.5.1).
+    LimitedBroadcast,
+    /// One of 0.0.0.0/8 (section 5.3.7).
+    ThisNetwork,
+    /// One of 127.0.0.0/8 (section 5.3.7).
+    Loopback,
+    /// Another of 240.0.0.0/4, which is class E (section 5.3.7).
+    Reserved,
+    /// One of 224.0.0.0/4, a group for which no route of its own stands in the script (section 5.3.10).
+    Multicast,
+    /// The last address of a prefix that a route leads to neighbors (RFC 2644, which changes the default of RFC 1812, section 5.3.5.2).
+    DirectedBroadcast,
+}
+
+/// What is known of the prefixes that routes lead to neighbors.
+#[derive(Drop)]
+pub struct Known {
+    // The last address of each that may be a network's.
+    lasts: BTreeSet<u32>,
+    // Those that may cover an address which is of a class wherever it occurs.
+    special: Vec<Prefix>,
+}
+
+// Whether a prefix may be that of a network: 1 to 30 bits.
+fn is_network(prefix: &Prefix) -> bool
+    ensures { result ≡ network prefix.now }
+{
+    1 <= prefix.len && prefix.len <= 30
+}
+
+// The last address of a prefix.
+fn last_address(prefix: &Prefix) -> u32
+    ensures { result ≡ last_of prefix.now }
+{
+    let count = 1u64 << (32 - prefix.len);
+    (u64::from(prefix.addr) + (count - 1)) as u32
+}
+
+// Whether a prefix is one of multicast addresses alone.
+fn is_multicast(prefix: &Prefix) -> bool
+    ensures { result ≡ multicast prefix.now }
+{
+    4 <= prefix.len && prefix.addr >> 28 == 14
+}
+
+// Whether a prefix covers an address.
+fn covers(prefix: &Prefix, address: u32) -> bool
+    ensures { result ≡ covers_of ip4 prefix.now address }
+{
+    let behind = 32 - u64::from(prefix.len);
+    u64::from(prefix.addr) >> behind == u64::from(address) >> behind
+}
+
+// Puts the last address of a prefix to others, where it may be a network's.
+fn add_last(lasts: &mut BTreeSet<u32>, prefix: &Prefix) -> Result<(), AllocError>
+    ensures { OnOk result ((address : ℕ) → contains_by (nat_cmp address) lasts.new ≡ (contains_by (nat_cmp address) lasts.old || (network prefix.now && last_of prefix.now == address))) }
+{
+    if is_network(prefix) {
+        lasts.insert(last_address(prefix))?;
+    }
+    Ok(())
+}
+
+// Whether the first byte of an address is that of addresses which are of a class wherever they occur.
+fn is_special(byte: u32) -> bool
+    ensures { result ≡ special byte }
+{
+    byte == 0 || byte == 127 || byte >= 224
+}
+
+// Whether a prefix may cover an address that is of a class wherever it occurs.
+fn may_be_special(prefix: &Prefix) -> bool
+    ensures { result ≡ may_cover_special prefix.now }
+{
+    prefix.len < 8 || is_special(prefix.addr >> 24)
+}
+
+// Puts a prefix behind others, where it may cover an address that is of a class wherever it occurs.
+fn add_special(prefixes: &mut Vec<Prefix>, prefix: &Prefix) -> Result<(), AllocError>
+    ensures { OnOk result (prefixes.new.items ≡ prefixes.old.items ++ filter may_cover_special (prefix.now ∷ [])) }
+{
+    if may_be_special(prefix) {
+        prefixes.push(*prefix)?;
+    }
+    Ok(())
+}
+
+// Whether one of some prefixes covers an address.
+fn any_covers(prefixes: &[Prefix], address: u32) -> bool
+    ensures { result ≡ is_led prefixes.now address }
+{
+    prefixes.iter().any(|prefix| covers(prefix, address))
+}
+
+// Whether a prefix is one of multicast addresses alone, and covers an address.
+fn covers_group(prefix: &Prefix, address: u32) -> bool
+    ensures { result ≡ (multicast prefix.now && covers_of ip4 prefix.now address) }
+{
+    is_multicast(prefix) && covers(prefix, address)
+}
+
+// Whether one of some prefixes, of multicast addresses alone, covers an address.
+fn any_group_covers(prefixes: &[Prefix], address: u32) -> bool
+    ensures { result ≡ has_group prefixes.now address }
+{
+    prefixes.iter().any(|prefix| covers_group(prefix, address))
+}
+
+// The class of an address whose first byte is one of those.
+fn special_class(address: u32) -> Class
+    ensures { result ≡ class_everywhere address }
+{
+    if address == u32::MAX {
+        return Class::LimitedBroadcast;
+    }
+    match address >> 24 {
+        0 => Class::ThisNetwork,
+        127 => Class::Loopback,
+        byte if byte >= 240 => Class::Reserved,
+        _ => Class::Multicast,
+    }
+}
+
+impl Known {
+    /// What is known of these prefixes.
+    ///
+    /// # Errors
+    ///
+    /// [`AllocError`] where memory runs out.
+    pub fn of(alloc: Global, led: &[Prefix]) -> Result<Known, AllocError>
+        ensures { IfOk result (IsKnown led.now) }
+    {
+        let mut lasts = BTreeSet::new(alloc);
+        let mut special = Vec::new(alloc);
+        for prefix in led {
+            add_last(&mut lasts, prefix)?;
+            add_special(&mut special, prefix)?;
+        }
+        Ok(Known { lasts, special })
+    }
+
+    // Whether an address is the last one of a prefix that may be a network's. Such a prefix has at most 30 bits, so the last two of that address
+    // are set, and most addresses need no search.
+    fn is_directed(&self, address: u32) -> bool
+        ensures { (led : List PrefixValue) → IsKnown led self.now → result ≡ directed led address }
+    {
+        if address % 4 != 3 {
+            return false;
+        }
+        self.lasts.contains(&address)
+    }
+
+    // Whether one of the prefixes covers this address, which is of a class wherever it occurs.
+    fn leads(&self, address: u32) -> bool
+        requires { special (address / 2 ^ 24) ≡ true }
+        ensures { (led : List PrefixValue) → IsKnown led self.now → result ≡ is_led led address }
+    {
+        any_covers(self.special.as_slice(), address)
+    }
+
+    // Whether one of the prefixes, of multicast addresses alone, covers this address, which is of a class wherever it occurs.
+    fn has_group_for(&self, address: u32) -> bool
+        requires { special (address / 2 ^ 24) ≡ true }
+        ensures { (led : List PrefixValue) → IsKnown led self.now → result ≡ has_group led address }
+    {
+        any_group_covers(self.special.as_slice(), address)
+    }
+
+    /// Of which class an address is that a router does not forward to, though routes lead it to neighbors.
+    pub fn class(&self, address: u32) -> Option<Class>
+        ensures { (led : List PrefixValue) → IsKnown led self.now → result ≡ class_of led address }
+    {
+        if !is_special(address >> 24) {
+            return if self.is_directed(address) {
+                Some(Class::DirectedBroadcast)
+            } else {
+                None
+            };
+        }
+        if self.leads(address) && !self.has_group_for(address) {
+            Some(special_class(address))
+        } else {
+            None
+        }
+    }
+}
+
+/// The destination of a frame that has an IPv4 header, behind its type or behind one VLAN tag more.
+pub fn destination(frame: &[u8]) -> Option<u32>
+    ensures { result ≡ destination_of frame.now }
+{
+    if frame.len() < 34 {
+        return None;
+    }
+    if u16_at(frame, 12) == 0x0800 {
+        return Some(u32_at(frame, 30));
+    }
+    if frame.len() < 38 {
+        return None;
+    }
+    if u16_at(frame, 12) == 0x8100 && u16_at(frame, 16) == 0x0800 {
+        return Some(u32_at(frame, 34));
+    }
+    None
+}

@@ -1,0 +1,88 @@
+//! What became of single packets that need not have been so.
+ghost use Rattle.std.specs.Prelude.{◌≡◌, ◌<◌, ◌≤◌, [], ◌∷◌, List, Some, length, slice_get};
+ghost use Rattle.vg_model.specs.declared.routes.Prefix.{Prefix as PrefixValue};
+ghost use Rattle.vg_report.specs.Seen.{line_seen};
+ghost use Rattle.vg_remarks.specs.Addresses.{IsKnown};
+ghost use Rattle.vg_remarks.specs.Found.{IsFound};
+ghost use Rattle.vg_remarks.specs.Packets.{congested as congested_in, told_below, told_of, said_of};
+
+use crate::addresses::{Class, Known, destination};
+use crate::found::Found;
+use vg_capture::Packets;
+use vg_report::{EndRef, LineRef, PacketLines};
+
+/// A packet that was transmitted, though a router does not forward to its destination.
+#[derive(Clone, Copy, Debug, PartialEq, Eq)]
+pub struct Unforwarded {
+    /// The packet's number, from 0.
+    pub number: u32,
+    /// Its destination, in the host's order.
+    pub address: u32,
+    /// Why a router does not forward to it.
+    pub class: Class,
+}
+
+/// What became of the packets of a run that need not have been so.
+#[derive(Clone, Copy, Debug, PartialEq, Eq)]
+pub struct Ends {
+    /// How many packets were dropped, each since a queue to another worker was full.
+    pub congested: usize,
+    /// The packets that were transmitted though a router does not forward to their destinations.
+    pub unforwarded: Found<Unforwarded>,
+}
+
+// 1 where a full queue refused a packet, and else 0.
+fn refused(line: LineRef<'_>) -> usize
+    ensures count { result ≡ congested_in (line_seen line.entry ∷ []) }
+    ensures one { result ≤ 1 }
+{
+    if line.congested.is_some() { 1 } else { 0 }
+}
+
+// What is said of a packet to this address.
+fn said(known: &Known, number: u32, address: Option<u32>) -> Option<Unforwarded>
+    ensures { (led : List PrefixValue) → IsKnown led known.now → result ≡ said_of led number address }
+{
+    match address {
+        None => None,
+        Some(address) => match known.class(address) {
+            None => None,
+            Some(class) => Some(Unforwarded {
+                number,
+                address,
+                class,
+            }),
+        },
+    }
+}
+
+// What is said of the packet of this number, whose line in the report is this one.
+fn told(known: &Known, packets: &Packets, number: u32, line: LineRef<'_>) -> Option<Unforwarded>
+    requires { number < length packets.now }
+    ensures { (led : List PrefixValue) → IsKnown led known.now → result ≡ told_of led number (slice_get packets.now number) (Some (line_seen line.entry)) }
+{
+    match line.end {
+        EndRef::Tx { .. } => said(known, number, destination(packets.bytes(number as usize))),
+        EndRef::Dropped { .. } => None,
+    }
+}
+
+/// What became of the packets of a run that need not have been so: how many a full queue dropped, and those that were transmitted though a
+/// router does not forward to their destinations.
+pub fn ends_of(known: &Known, packets: &Packets, lines: &PacketLines) -> Ends
+    requires { length lines.now ≡ length packets.now }
+    ensures congested { result.congested ≡ congested_in lines.now }
+    ensures unforwarded { (led : List PrefixValue) → IsKnown led known.now → IsFound (told_below led packets.now lines.now (length lines.now)) result.unforwarded }
+{
+    let mut congested = 0;
+    let mut unforwarded = Found::none();
+    for number in 0..packets.len() {
+        let line = lines.get(number);
+        congested += refused(line);
+        unforwarded = unforwarded.with(told(known, packets, number as u32, line));
+    }
+    Ends {
+        congested,
+        unforwarded,
+    }
+}
