@@ -1,6 +1,6 @@
 -- For `forward`: from what came of a run to its report, its savefile and its end.
 use Rattle.std.proofs.Common.{◌≡◌, ℕ, zero, suc, ◌-◌, ◌<◌, ◌≤◌, ◌+◌, ◌^◌, Bool, List, [], ◌∷◌, length, map, take, sym, ap, subst, ◌∙◌, arith}
-use Rattle.std.specs.Prelude.{Some, flat_map, slice_get}
+use Rattle.std.specs.Prelude.{Some, IfSome, flat_map, slice_get}
 use Rattle.std.specs.List.{AllByRecursion, enumerate_from}
 use Rattle.std.proofs.lemmas.List.{length-map}
 use Rattle.std.proofs.lemmas.Option.{none-some, same_Some}
@@ -36,6 +36,7 @@ use Rattle.vg_top.proofs.KindLemmas.{own_visits}
 use Rattle.vg_check.proofs.JourneyLemmas.{IsOwn, own_journeys, chosen_lawfully}
 use Rattle.vg_check.proofs.LawfulLemmas.{IsReportable, report_lawful}
 use Rattle.vg_check.proofs.OutputLemmas.{named_are}
+use Rattle.vg_remarks.specs.Remarks.{AreRemarks}
 use Rattle.vg_top.specs.declared.run.Results.{Results}
 use Rattle.vg_top.specs.Dues.{AreResultsOf, setting_in}
 use Rattle.vg_top.specs.Reported.{reported}
@@ -97,6 +98,17 @@ alike_by [] first setting capture report tx sound output one own = absurd (omega
 alike_by (g ∷ []) first setting capture report tx sound output one own = sends_alike vgd_visit g first setting capture report tx sound.0.valid output own
 alike_by (g ∷ h ∷ graphs) first setting capture report tx sound output one own = absurd (omega (arith, one))
 
+-- what a run's report, its savefile and its end are made of
+pub record AreMade (plan : Planned) (options : Options) (capture : Capture) (outcome : Outcome) (report : Report) (results : Results) : Type 0 where
+  pub made : report ≡ reported options (length plan.graphs) outcome
+  pub lawful : IsLawful report
+  pub is_text : results.report ≡ text report
+  pub saved : results.tx ≡ savefile capture outcome.sent
+  pub rests : results.end.rests ≡ outcome.rests
+  pub seat : results.end.seat ≡ outcome.seat
+  pub settled : results.end.settled ≡ outcome.settled
+  pub remarks : IfSome results.end.remarks (AreRemarks capture plan.script report)
+
 -- a run's outcome by a plan
 module _ (plan : Planned) (options : Options) (capture : Capture) (outcome : Outcome) (lossless : Bool)
     (is : IsOutcome vgd_visit lossless plan.graphs (first_generation plan.script capture) capture options outcome) where
@@ -111,39 +123,44 @@ module _ (plan : Planned) (options : Options) (capture : Capture) (outcome : Out
       ∙ ap (λ g. report_with (setting_in options) (length plan.graphs) g is.js) whole
 
   -- the report, the savefile and the end are the run's
-  pub results_are : (report : Report) (results : Results) → IsPlan plan → report ≡ reported options (length plan.graphs) outcome → IsLawful report → results.report ≡ text report
-      → results.tx ≡ savefile capture outcome.sent → results.end.rests ≡ outcome.rests → results.end.seat ≡ outcome.seat → results.end.settled ≡ outcome.settled
-      → AreResultsOf plan options lossless capture results
-  results_are report results planned made lawful is_text saved rests seat settled =
+  pub results_are : (report : Report) (results : Results) → IsPlan plan → AreMade plan options capture outcome report results → AreResultsOf plan options lossless capture results
+  results_are report results planned are =
       let first : ℕ → ℕ = first_generation plan.script capture in
-      let is_report : report ≡ report_of (setting_in options) plan.graphs is.js = made ∙ reported_is in
+      let is_report : report ≡ report_of (setting_in options) plan.graphs is.js = are.made ∙ reported_is in
       let named : choices_of report ≡ is.choices =
       ap choices_of is_report ∙ named_are vgd_visit plan.graphs options.workers (frames_of capture) is.choices is.js (setting_in options) plan.graphs is.lawful.are_journeys in
       let output : IsOutput vgd_visit plan.graphs first (setting_in options) capture report results.tx = record {
         js = is.js;
         lawful = subst (λ cs. AreLawfulChoices vgd_visit plan.graphs options.workers options.queue first (frames_of capture) cs is.js) (sym named) is.lawful;
         reported = is_report;
-        saved = saved ∙ ap (savefile capture) is.are_sent;
+        saved = are.saved ∙ ap (savefile capture) is.are_sent;
       } in
       record {
         report = report;
-        lawful = lawful;
-        is_text = is_text;
+        lawful = are.lawful;
+        is_text = are.is_text;
         output = output;
         end = record {
-          rests = subst (AllWith (IsRestOf is.js) (pairs options.workers)) (sym rests) is.rests;
-          stamp = subst (λ seat. length plan.graphs ≤ (main_view seat.seat).stamp) (sym seat) is.stamp;
-          settled = settled ∙ is.settled;
+          rests = subst (AllWith (IsRestOf is.js) (pairs options.workers)) (sym are.rests) is.rests;
+          stamp = subst (λ seat. length plan.graphs ≤ (main_view seat.seat).stamp) (sym are.seat) is.stamp;
+          settled = are.settled ∙ is.settled;
         };
+        remarks = are.remarks;
         alike = alike_by plan.graphs first (setting_in options) capture report results.tx planned.generations output;
         lossless = λ yes_is. lossless_by plan.graphs first (setting_in options) capture report results.tx outcome.last outcome.fates planned.generations output
-            (ap (λ (r : Report). r.packets) made) (is.none_congested yes_is);
+            (ap (λ (r : Report). r.packets) are.made) (is.none_congested yes_is);
       }
 
   -- each packet has a journey of its own
   pub own : AreInRange options → IsPlan plan → AllByRecursion (IsOwn options.workers (length (frames_of capture))) is.js × (length is.js ≡ length (frames_of capture))
   own range planned =
       own_journeys vgd_visit options.workers range.workers.0 plan.graphs planned.generations (frames_of capture) is.choices is.js is.lawful.are_journeys
+
+  -- the report has a line for each packet
+  pub one_line_each : (report : Report) → AreInRange options → IsPlan plan → report ≡ reported options (length plan.graphs) outcome → length report.packets ≡ length capture.packets
+  one_line_each report range planned made =
+      ap (λ (r : Report). length r.packets) (made ∙ reported_is)
+      ∙ (length-map is.js (packet_line_of (last_graph plan.graphs)) ∙ ((own range planned).1 ∙ length-map capture.packets (λ p. p.bytes)))
 
   -- what the report is made from is in range
   pub reportable : AreInRange options → IsPlan plan → length plan.graphs ≡ length (events plan.script) + 1 → length capture.packets ≤ 65536

@@ -202,7 +202,7 @@ done_due call run input results accepted are saved others = inl (
       alike = are.alike;
       lossless = are.lossless;
     },
-    are.end,
+    (are.end, are.remarks),
   ),
 )
 

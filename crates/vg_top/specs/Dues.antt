@@ -1,5 +1,5 @@
 -- What is due where a run stops, and where it ends.
-use Rattle.std.specs.Prelude.{◌≡◌, ◌⊎◌, ℕ, Bool, true, List, length, Option, None, IsSomeAnd}
+use Rattle.std.specs.Prelude.{◌≡◌, ◌⊎◌, ℕ, Bool, true, List, length, Option, None, IfSome, IsSomeAnd}
 use Rattle.vg_files.specs.Kinds.{vgd_visit}
 use Rattle.vg_capture.specs.declared.captures.Capture.{Capture}
 use Rattle.vg_report.specs.declared.reports.Report.{Report}
@@ -9,6 +9,7 @@ use Rattle.vg_plan.specs.Plan.{Planned, first_generation}
 use Rattle.vg_dispatch.specs.declared.options.Options.{Options}
 use Rattle.vg_check.specs.Output.{Setting, IsOutput, frames_of}
 use Rattle.vg_check.specs.OneWorker.{alone, HasOwnEnds}
+use Rattle.vg_remarks.specs.Remarks.{AreRemarks}
 use Rattle.vg_files.specs.declared.refusals.Refusal.{Refusal}
 use Rattle.vg_files.specs.declared.refusals.Stop.{Stop}
 use Rattle.vg_files.specs.declared.refusals.Stop.TheVariants as stops
@@ -30,13 +31,14 @@ abbrev pub setting_in : Options → Setting
 setting_in options = record { workers = options.workers; buffers = options.buffers; queue = options.queue; trace = options.trace }
 
 -- the savefile and the text of the report of what a capture's packets become by this plan and these options, where frames that a queue
--- doesn't take are held back or not, and the end of the run that made them
+-- doesn't take are held back or not, and the end of the run that made them, with what is remarked of it
 pub record AreResultsOf (plan : Planned) (options : Options) (hold : Bool) (capture : Capture) (results : Results) : Type 0 where
   pub report : Report
   pub lawful : IsLawful report
   pub is_text : results.report ≡ text report
   pub output : IsOutput vgd_visit plan.graphs (first_generation plan.script capture) (setting_in options) capture report results.tx
   pub end : HasEnded options.workers options.buffers plan.graphs (frames_of capture) output.js results.end
+  pub remarks : IfSome results.end.remarks (AreRemarks capture plan.script report)
   pub alike : length plan.graphs ≡ 1 → HasOwnEnds report
       → (other : Report) × IsOutput vgd_visit plan.graphs (first_generation plan.script capture) (alone (setting_in options)) capture other results.tx
   pub lossless : hold ≡ true → IsLossless vgd_visit plan.graphs (first_generation plan.script capture) (setting_in options) capture report results.tx

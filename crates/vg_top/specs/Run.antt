@@ -1,5 +1,5 @@
 -- What a call of the program answers and what it leaves behind.
-use Rattle.std.specs.Prelude.{◌≡◌, ◌≢◌, ◌⊎◌, ℕ, ◌++◌, true, List, [], ◌∷◌, length, codes, Option, Some, None, Ok, Err}
+use Rattle.std.specs.Prelude.{◌≡◌, ◌≢◌, ◌⊎◌, ℕ, ◌++◌, true, List, [], ◌∷◌, length, codes, Option, Some, None, IfSome, Ok, Err}
 use Rattle.std.specs.Borrow.{Bor}
 use Rattle.vg_model.specs.Graph.{Graph}
 use Rattle.vg_files.specs.Kinds.{vgd_visit}
@@ -25,6 +25,7 @@ use Rattle.vg_check.specs.Output.{IsOutput, frames_of}
 use Rattle.vg_check.specs.OneWorker.{alone, HasOwnEnds}
 use Rattle.vg_check.specs.declared.verdicts.Verdict.{Verdict}
 use Rattle.vg_check.specs.Verdicts.{IsVerdict, IsAccepted}
+use Rattle.vg_remarks.specs.Remarks.{AreRemarks}
 use Rattle.vg_top.specs.declared.done.RunEnd.{RunEnd}
 use Rattle.vg_load.specs.declared.summaries.Load.{Load}
 use Rattle.vg_load.specs.Summary.{summary}
@@ -79,9 +80,12 @@ pub record IsDone (call : Call) (line : List ℕ) : Type 0 where
   -- where the words ask to hold frames back, no queue refuses one
   pub lossless : run.hold ≡ true → IsLossless vgd_visit graphs (first_generation script capture) (setting_of run) capture report tx
 
--- and this is the end of the run whose report was printed
+-- and this is the end of the run whose report was printed; what is remarked, where memory sufficed for it, is what there is to remark of the run's
+-- capture, its script and that report
 abbrev pub IsEndOf : {call : Call} {line : List ℕ} → IsDone call line → RunEnd → Type 0
-IsEndOf done end = HasEnded done.run.workers done.run.buffers done.graphs (frames_of done.capture) done.output.js end
+IsEndOf done end =
+    HasEnded done.run.workers done.run.buffers done.graphs (frames_of done.capture) done.output.js end
+    × IfSome end.remarks (AreRemarks done.capture done.script done.report)
 
 -- a load is done: this is the text that tells of it, and the folder's files are as before
 pub record IsLoadDone (call : Call) (line : List ℕ) : Type 0 where

@@ -4,6 +4,7 @@ use vg_barrier::MainSeat;
 use vg_dispatch::WorkerParcel;
 use vg_engine::Rests;
 use vg_pool::Settled;
+use vg_remarks::Remarks;
 
 /// What a run leaves beside its files.
 #[derive(Drop)]
@@ -14,6 +15,8 @@ pub struct RunEnd {
     pub seat: MainSeat<WorkerParcel>,
     /// What the settlement of the run's pool came to.
     pub settled: Settled,
+    /// What is remarked of the run. Where memory runs out for that alone, the run is as good and nothing is remarked.
+    pub remarks: Option<Remarks>,
 }
 
 /// What a call answers.

@@ -1,17 +1,28 @@
-//! The report of a run, and its end.
-ghost use Rattle.std.specs.Prelude.{◌≡◌, ◌<◌, ◌≤◌, length, IfOk};
+//! The report of a run, its end, what is remarked of it, and the bytes that are saved and printed.
+ghost use Rattle.std.specs.Prelude.{◌≡◌, ◌<◌, ◌≤◌, ◌^◌, ℕ, List, length, All, IfOk, IfSome};
 ghost use Rattle.std.specs.List.{AllByRecursion};
 ghost use Rattle.vg_model.specs.Name.{IsName};
+ghost use Rattle.vg_capture.specs.Savefile.{savefile};
 ghost use Rattle.vg_journeys.specs.Ends.{IsEndIn};
+ghost use Rattle.vg_remarks.specs.Remarks.{AreRemarks};
+ghost use Rattle.vg_report.specs.Lawful.{IsLawful};
+ghost use Rattle.vg_report.specs.Text.{text};
 ghost use Rattle.vg_top.specs.Reported.{reported};
 
 use crate::done::RunEnd;
 use std::alloc::{AllocError, Global};
+use std::thread::{Threads, join};
+use vg_capture::Capture;
+use vg_dispatch::SentList;
 use vg_engine::{Options, Outcome};
-use vg_report::Report;
+use vg_model::{Bytes, Memory};
+use vg_plan::Plan;
+use vg_remarks::{Remarks, remarks_on};
+use vg_report::{Report, write_report};
 use vg_reporting::{errors, interfaces, lines, nodes, traces};
+use vg_savefile::savefile_of;
 
-/// The report of what came of a run over so many generations, and the end of the run.
+/// The report of what came of a run over so many generations, and the end of the run, with nothing remarked of it.
 pub fn report(
     alloc: Global,
     options: &Options,
@@ -56,6 +67,56 @@ pub fn report(
             rests,
             seat,
             settled,
+            remarks: None,
         },
     ))
+}
+
+/// What is saved and printed of a run, and what is remarked of it: nothing where memory ran out for that.
+#[derive(Drop)]
+pub struct Output {
+    pub tx: Bytes,
+    pub text: Bytes,
+    pub remarks: Option<Remarks>,
+}
+
+/// The savefile of the packets that were transmitted of a capture, the text of the report, and what is remarked of a run of this plan by the
+/// report: one thread makes the first while another makes the others.
+pub fn write_output<R: Threads>(
+    rt: &R,
+    alloc: Global,
+    plan: &Plan,
+    capture: &Capture,
+    sent: SentList,
+    report: &Report,
+) -> Result<Output, Memory>
+    requires sent { All (λ (packet : ℕ × List ℕ). (packet.0 < length capture.now.packets) × (length packet.1 < 2 ^ 32)) sent }
+    requires report { IsLawful report.now }
+    requires packets { length report.now.packets ≡ length capture.now.packets }
+    ensures tx { IfOk result (λ output. output.tx ≡ savefile capture.now sent) }
+    ensures text { IfOk result (λ output. output.text ≡ text report.now) }
+    ensures remarks { IfOk result (λ output. IfSome output.remarks (AreRemarks capture.now plan.now.script report.now)) }
+{
+    let (tx, said) = join(
+        rt,
+        move || -> Result<Bytes, AllocError>
+            requires { All (λ (packet : ℕ × List ℕ). (packet.0 < length capture.now.packets) × (length packet.1 < 2 ^ 32)) sent }
+            ensures { IfOk result (λ bytes. bytes ≡ savefile capture.entry.now sent) }
+        { savefile_of(alloc, capture, sent) },
+        move || -> Result<(Bytes, Option<Remarks>), Memory>
+            requires report { IsLawful report.now }
+            requires packets { length report.now.packets ≡ length capture.now.packets }
+            ensures text { IfOk result (λ said. said.0 ≡ text report.entry.now) }
+            ensures remarks { IfOk result (λ said. IfSome said.1 (AreRemarks capture.entry.now plan.entry.now.script report.entry.now)) }
+        {
+            let text = write_report(alloc, report)?;
+            let remarks = remarks_on(alloc, capture, plan.script(), report);
+            Ok((text, remarks.ok()))
+        },
+    );
+    let Ok(tx) = tx else {
+        return Err(Memory);
+    };
+    let (text, remarks) = said?;
+    Ok(Output { tx, text, remarks })
 }

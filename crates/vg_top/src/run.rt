@@ -16,7 +16,7 @@ use crate::done::RunEnd;
 use crate::dues::{Due, refuse, stopped};
 use crate::load::load_due;
 use crate::lossless::lossless_links;
-use crate::reporting::report;
+use crate::reporting::{Output, report, write_output};
 use std::alloc::{AllocError, Global};
 use std::mem;
 use std::sync::Wait;
@@ -29,14 +29,12 @@ use vg_hands::{HandFrame, Handoff};
 use vg_load::Load;
 use vg_model::{Bytes, Memory};
 use vg_outside::{Folder, Gate};
-use vg_report::write_report;
-use vg_savefile::savefile_of;
 use vg_words::{Command, Run, read_words};
 
 // How many bytes a packet a list may have whose memory is kept: more than a log, a short packet or a line of the report.
 const KEPT: usize = 64;
 
-/// What a run gives: the savefile, the text of its report, and its end.
+/// What a run gives: the savefile, the text of its report, and its end, with what is remarked of it.
 #[derive(Drop)]
 struct Results {
     tx: Bytes,
@@ -126,14 +124,15 @@ fn forward<R: Wait + Threads + Sync, G: Gate>(
     )?;
     let none = SentList::new(Vec::new(alloc), Vec::new(alloc));
     let sent = mem::replace(&mut outcome.sent, none);
-    let Ok(tx) = savefile_of(alloc, capture, sent) else {
-        return Err(Memory);
-    };
     let Ok((report, end)) = report(alloc, options, generations, outcome) else {
         return Err(Memory);
     };
-    let report = write_report(alloc, &report)?;
-    Ok(Results { tx, report, end })
+    let Output { tx, text, remarks } = write_output(rt, alloc, plan, capture, sent, &report)?;
+    Ok(Results {
+        tx,
+        report: text,
+        end: RunEnd { remarks, ..end },
+    })
 }
 
 /// The options of a run.

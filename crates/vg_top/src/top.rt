@@ -34,7 +34,8 @@ pub fn vgd_run<F: Folder, O: Sink, G: Gate, R: Wait + Threads + Sync>(
     ensures known { result.status ≤ 9 }
 
     // 0: a run is done: the folder holds its savefile, its report was printed, and what is answered is the end of the run that they tell of.
-    // Or a load is done, and the text that tells of it was printed; or a check answers yes, and that was printed: the folder is as it was.
+    // What is remarked there is what there is to remark of the run's capture, its script and that report. Or a load is done, and the text that
+    // tells of it was printed; or a check answers yes, and that was printed: the folder is as it was.
     ensures done { result.status ≡ 0 → (line : List ℕ) × Appends (O.written out.old) (O.written out.new) line
         × AreDone (called words.now (F.contents folder.old) (F.contents folder.new) (F.faults folder.old) (F.faults folder.new)) line result.ran }
 

@@ -4,7 +4,7 @@
 //! What a call prints and saves, and no more, is a row of `vg_rows`: here are calls with gates, faults and the end of a run, orders of threads, and
 //! bytes made by loops.
 //!
-//! In which order to read: `memory_runs`, `runs`, `refusals`, `captures`, `workers`, `holds`, `walked`, `loads`, `checks`; then
+//! In which order to read: `memory_runs`, `runs`, `remarks`, `refusals`, `captures`, `workers`, `holds`, `walked`, `loads`, `checks`; then
 //! `lengths`, `dual_stack`, `vlans`.
 #![tactic(auto)]
 
@@ -24,6 +24,8 @@ mod loads;
 mod memory_runs;
 #[cfg(test)]
 mod refusals;
+#[cfg(test)]
+mod remarks;
 #[cfg(test)]
 mod runs;
 #[cfg(test)]

@@ -107,6 +107,8 @@ fn a_full_queue_drops_a_packet_with_its_count(rt: HostRuntime) -> Result<(), Fai
         packet 4 0:0,1:0 tx pg0\n";
     let report = report(alloc, [4096, 1, 5], [4, 2, 4, 1, 5, 5], lines)?;
     let tx = savefile(alloc, &[TO_1, TO_1, TO_1, TO_1])?;
+    let end = ran.ran.as_ref().ok_or("no end")?;
+    assert_eq!(rt; end.remarks.ok_or("no remarks")?.congested, 1);
     assert_ran(&rt, ran, report.as_str(), tx.as_slice(), 1)
 }
 

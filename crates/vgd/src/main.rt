@@ -7,7 +7,8 @@ use std::rt::Env;
 use std::{env, io};
 use vg_explain::{Keeping, explain_not_utf8, explain_vgd};
 use vg_outside::{OpenGate, RealFolder, RealSink};
-use vg_top::vgd_run;
+use vg_remarks::tell;
+use vg_top::{RunEnd, vgd_run};
 
 /// The words after the program's name.
 fn program_words<R: Env + AllocGlobal>(rt: &R) -> io::Result<Vec<String>> {
@@ -43,19 +44,25 @@ fn main(rt: HostRuntime) -> ExitCode {
         &mut out,
         &OpenGate,
     );
-    if done.status != 0 {
-        // An explanation that can't be written changes nothing.
-        let _ = if are_utf8 {
-            explain_vgd(
-                &rt,
-                words.as_slice(),
-                done.status,
-                out.kept(),
-                folder.save_error.as_ref(),
-            )
-        } else {
-            explain_not_utf8(&rt, "vgd")
-        };
-    }
+    // What can't be said to people changes nothing.
+    let _ = if done.status == 0 {
+        match &done.ran {
+            Some(RunEnd {
+                remarks: Some(remarks),
+                ..
+            }) => tell(&rt, remarks),
+            _ => Ok(()),
+        }
+    } else if are_utf8 {
+        explain_vgd(
+            &rt,
+            words.as_slice(),
+            done.status,
+            out.kept(),
+            folder.save_error.as_ref(),
+        )
+    } else {
+        explain_not_utf8(&rt, "vgd")
+    };
     ExitCode::from(done.status)
 }
