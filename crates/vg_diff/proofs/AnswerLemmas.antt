@@ -1,8 +1,10 @@
--- For the clauses of `due_of`, `compared` and `answer`: a comparison's status and text.
+-- For the clauses of `due_of`, `compared` and `answer`: a comparison's counts, status and text.
 use Rattle.std.proofs.Common.{◌≡◌, ◌↔◌, ◌⊎◌, ℕ, ◌+◌, List, ◌++◌, length, subst, arith, length-append}
 use Rattle.std.proofs.lemmas.List.{length-map}
 use Rattle.std.proofs.lemmas.List.Sorted.{length_permutation}
-use Rattle.vg_match.specs.Diffs.{AllMatch, firsts, seconds}
+use Rattle.vg_match.specs.declared.diffs.Diff.{Diff}
+use Rattle.vg_match.specs.declared.fields.Field.{Field}
+use Rattle.vg_match.specs.Diffs.{Packets, IsDiff, AllMatch, firsts, seconds}
 use Rattle.vg_match.specs.Sides.{left_out, meant_numbers}
 use Rattle.vg_match.proofs.ExactLemmas.{exact}
 use Rattle.vg_match.proofs.SideLemmas.{out_or_named}
@@ -10,24 +12,32 @@ use Rattle.vg_diff.specs.declared.lines.Findings.{Findings}
 use Rattle.vg_diff.specs.Lines.{IsText}
 use Rattle.vg_diff.specs.Run.{Terms, Compared, packets_of, IsFound, AddUp, IsAnswer}
 
+-- each packet that had to come is left out or stands in the difference, and each that came
+pub wanted_counted : (ignored : List Field) (packets : Packets) (diff : Diff) → IsDiff ignored packets diff
+    → left_out packets.only packets.wanted + (length diff.same.items + (length diff.changed.items + length diff.missing.items)) ≡ length packets.wanted
+wanted_counted ignored packets diff is =
+    let out : left_out packets.only packets.wanted + length (meant_numbers packets.only 0 packets.wanted) ≡ length packets.wanted = out_or_named packets.only 0 packets.wanted in
+    let once : length (firsts diff.same.items ++ (firsts diff.changed.items ++ diff.missing.items)) ≡ length (meant_numbers packets.only 0 packets.wanted)
+    = length_permutation _ _ is.wanted_once in
+    let sum : length (firsts diff.same.items ++ (firsts diff.changed.items ++ diff.missing.items)) ≡ length diff.same.items + (length diff.changed.items + length diff.missing.items)
+    = simp (length-append, length-map) in
+    omega (arith, out, once, sum)
+
+pub got_counted : (ignored : List Field) (packets : Packets) (diff : Diff) → IsDiff ignored packets diff
+    → left_out packets.only packets.got + (length diff.same.items + (length diff.changed.items + (length diff.there.items + length diff.extra.items))) ≡ length packets.got
+got_counted ignored packets diff is =
+    let out : left_out packets.only packets.got + length (meant_numbers packets.only 0 packets.got) ≡ length packets.got = out_or_named packets.only 0 packets.got in
+    let once : length (seconds diff.same.items ++ (seconds diff.changed.items ++ (seconds diff.there.items ++ diff.extra.items))) ≡ length (meant_numbers packets.only 0 packets.got)
+    = length_permutation _ _ is.got_once in
+    let sum : length (seconds diff.same.items ++ (seconds diff.changed.items ++ (seconds diff.there.items ++ diff.extra.items)))
+    ≡ length diff.same.items + (length diff.changed.items + (length diff.there.items + length diff.extra.items)) = simp (length-append, length-map) in
+    omega (arith, out, once, sum)
+
 -- each packet stands in one count
 add_up : (terms : Terms) (compared : Compared) (found : Findings) → IsFound terms compared found → AddUp compared found
 add_up terms compared found is = record {
-  wanted_sum =
-      let out : left_out terms.only compared.wanted + length (meant_numbers terms.only 0 compared.wanted) ≡ length compared.wanted = out_or_named terms.only 0 compared.wanted in
-      let once : length (firsts found.diff.now.same.items ++ (firsts found.diff.now.changed.items ++ found.diff.now.missing.items)) ≡ length (meant_numbers terms.only 0 compared.wanted)
-      = length_permutation _ _ is.is_diff.wanted_once in
-      let sum : length (firsts found.diff.now.same.items ++ (firsts found.diff.now.changed.items ++ found.diff.now.missing.items))
-      ≡ length found.diff.now.same.items + (length found.diff.now.changed.items + length found.diff.now.missing.items) = simp (length-append, length-map) in
-      omega (arith, out, once, sum, is.wanted_noise);
-  got_sum =
-      let out : left_out terms.only compared.got + length (meant_numbers terms.only 0 compared.got) ≡ length compared.got = out_or_named terms.only 0 compared.got in
-      let once : length (seconds found.diff.now.same.items ++ (seconds found.diff.now.changed.items ++ (seconds found.diff.now.there.items ++ found.diff.now.extra.items)))
-      ≡ length (meant_numbers terms.only 0 compared.got) = length_permutation _ _ is.is_diff.got_once in
-      let sum : length (seconds found.diff.now.same.items ++ (seconds found.diff.now.changed.items ++ (seconds found.diff.now.there.items ++ found.diff.now.extra.items)))
-      ≡ length found.diff.now.same.items + (length found.diff.now.changed.items + (length found.diff.now.there.items + length found.diff.now.extra.items))
-      = simp (length-append, length-map) in
-      omega (arith, out, once, sum, is.got_noise);
+  wanted_sum = let all = wanted_counted terms.ignored (packets_of terms compared) found.diff.now is.is_diff in omega (arith, all, is.wanted_noise);
+  got_sum = let all = got_counted terms.ignored (packets_of terms compared) found.diff.now is.is_diff in omega (arith, all, is.got_noise);
 }
 
 pub answered : (terms : Terms) (compared : Compared) (found : Findings) (status : ℕ) (text : List ℕ) → IsFound terms compared found → IsText terms.manner found text

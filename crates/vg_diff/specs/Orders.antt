@@ -10,6 +10,7 @@ use Rattle.vg_match.specs.Keys.{joined, parts_of}
 use Rattle.vg_match.specs.Frames.{layout_of}
 use Rattle.vg_match.specs.Hashes.{hash_of}
 use Rattle.vg_diff.specs.declared.orders.Turn.{Turn}
+use Rattle.vg_diff.specs.declared.flows.FlowTurn.{FlowTurn}
 use Rattle.vg_diff.specs.Lines.{frame_at, file_of}
 
 -- a packet that came: the savefile that it stands in, the hash of its flow, its flow, and its numbers among those that came and those that
@@ -22,7 +23,7 @@ pub record Coming : Type 0 where
   pub wanted : ℕ
 
 -- what the frames of a flow have in common: addresses, protocol and ports
-abbrev pub flow_of : List ℕ → List ℕ
+unfoldable pub flow_of : List ℕ → List ℕ
 flow_of frame = joined (parts_of Flow (layout_of frame)) frame
 
 -- the packet of a pair
@@ -30,9 +31,31 @@ abbrev pub coming_of : (frames : List (Bor (List ℕ))) → (starts : List ℕ) 
 coming_of frames starts pair =
     let flow = flow_of (frame_at frames pair.0) in record { file = file_of starts pair.1; hash = hash_of flow; flow = flow; got = pair.1; wanted = pair.0 }
 
--- the same, as the code has it
-abbrev pub coming : Turn → Coming
-coming turn = record { file = turn.file; hash = turn.hash; flow = turn.flow.items; got = turn.got; wanted = turn.wanted }
+-- the same, as the code has it with its flow
+abbrev pub coming_with : FlowTurn → Coming
+coming_with turn = record { file = turn.file; hash = turn.hash; flow = turn.flow.items; got = turn.got; wanted = turn.wanted }
+
+-- the same, as the code has it without: the flow is that of the frame
+abbrev pub coming : (frames : List (Bor (List ℕ))) → Turn → Coming
+coming frames turn =
+    record { file = turn.file; hash = turn.hash; flow = flow_of (frame_at frames turn.wanted); got = turn.got; wanted = turn.wanted }
+
+-- the hash is that of the flow
+abbrev pub IsHashed : (frames : List (Bor (List ℕ))) → Turn → Type 0
+IsHashed frames turn = turn.hash ≡ hash_of (flow_of (frame_at frames turn.wanted))
+
+-- where both are of one savefile and one hash, they are of one flow
+abbrev pub AreTold : (frames : List (Bor (List ℕ))) → Turn → Turn → Type 0
+AreTold frames one other = one.file ≡ other.file → one.hash ≡ other.hash → flow_of (frame_at frames one.wanted) ≡ flow_of (frame_at frames other.wanted)
+
+-- so of each and the next, the one before them among these
+abbrev pub AreToldBehind : (frames : List (Bor (List ℕ))) → Turn → List Turn → Type 0
+AreToldBehind frames before [] = Unit {0}
+AreToldBehind frames before (next ∷ others) = AreTold frames before next × AreToldBehind frames next others
+
+abbrev pub AreAllTold : (frames : List (Bor (List ℕ))) → List Turn → Type 0
+AreAllTold frames [] = Unit {0}
+AreAllTold frames (first ∷ others) = AreToldBehind frames first others
 
 -- by savefile, then by flow, these by their hashes first, then as they came
 abbrev pub coming_cmp : Coming → Coming → Ordering
@@ -59,7 +82,7 @@ late (first ∷ others) = late_behind first first.wanted others
 -- so many of these pairs stand the other way round within their flow: in the order of savefile, flow and coming, each of them is behind one
 -- that had to come later
 pub record AreReordered (frames : List (Bor (List ℕ))) (starts : List ℕ) (pairs : List (ℕ × ℕ)) (count : ℕ) : Type 0 where
-  pub all : List Turn
-  pub each : IsPermutation (map (coming_of frames starts) pairs) (map coming all)
-  pub rise : IsSorted (λ (one other : Turn). coming_cmp (coming one) (coming other)) all
-  pub is : count ≡ late (map coming all)
+  pub all : List Coming
+  pub each : IsPermutation (map (coming_of frames starts) pairs) all
+  pub rise : IsSorted coming_cmp all
+  pub is : count ≡ late all

@@ -1,6 +1,6 @@
 //! What `vgdiff` reads, finds and prints: how the packets that another router put out differ from those of a run.
 //!
-//! In which order to read: `top`, `words` with `prefixes`, `input`, `differences`, `orders`, `lines` with `rows`, `texts` and `classes`,
+//! In which order to read: `top`, `words` with `prefixes`, `input`, `differences`, `orders` with `flows`, `lines` with `rows`, `texts` and `classes`,
 //! `answers`; then `linux`, `refusals`, `printing`; `explaining` by itself.
 #![tactic(auto)]
 
@@ -8,6 +8,7 @@ pub mod answers;
 pub mod classes;
 pub mod differences;
 pub mod explaining;
+pub mod flows;
 pub mod input;
 pub mod lines;
 pub mod linux;

@@ -1,45 +1,48 @@
 //! Which packets came in another order than that of their flow.
-ghost use Rattle.std.specs.Prelude.{◌≡◌, map, IfOk};
-ghost use Rattle.vg_diff.specs.Orders.{flow_of as flow_in, coming, coming_of, is_one_flow as is_in_one_flow, late as late_among, AreReordered};
+ghost use Rattle.std.specs.Prelude.{◌≡◌, map, All, IfOk, IfSome, IsTrue};
+ghost use Rattle.vg_match.specs.Hashes.{hash_of as hash_of_bytes};
+ghost use Rattle.vg_diff.specs.Orders.{flow_of as flow_in, coming, coming_of, is_one_flow as is_in_one_flow, late as late_among, late_behind as late_among_others};
+ghost use Rattle.vg_diff.specs.Orders.{IsHashed, AreTold, AreToldBehind, AreAllTold, AreReordered};
 
+use crate::flows::reordered_by_flows;
 use crate::lines::{file_of, frame_at};
 use std::alloc::{AllocError, Global};
-use vg_match::{Diff, Likeness, hash_of, likeness_of};
-use vg_model::Bytes;
+use vg_match::{Likeness, hash_of, have_same_parts, put_likeness};
 
-// A packet that came: the savefile that it stands in, the hash of its flow, its flow, and its numbers among those that came and those that
-// were wanted. In this order they are compared, so the flows themselves only where their hashes are the same.
-#[derive(Drop, PartialEq, Eq, PartialOrd, Ord)]
+// A packet that came: the savefile that it stands in, the hash of its flow, and its numbers among those that came and those that were
+// wanted. In this order they are compared. The flow itself stays in the frame.
+#[derive(Clone, Copy, PartialEq, Eq, PartialOrd, Ord)]
 struct Turn {
     file: usize,
     hash: u64,
-    flow: Vec<u8>,
     got: u32,
     wanted: u32,
 }
 
-// What the frames of a flow have in common.
-fn flow_of(alloc: Global, frame: &[u8]) -> Result<Bytes, AllocError>
-    ensures { IfOk result (λ flow. flow ≡ flow_in frame.now) }
+// The hash of what the frames of a flow have in common, which is put together in memory that each frame uses again.
+#[tactic(auto, unfolding(crate::specs::Orders::flow_of))]
+fn flow_hash(memory: &mut Vec<u8>, frame: &[u8]) -> Result<u64, AllocError>
+    ensures { IfOk result (λ hash. hash ≡ hash_of_bytes (flow_in frame.now)) }
 {
-    likeness_of(alloc, Likeness::Flow, frame, frame)
+    memory.clear();
+    put_likeness(memory, Likeness::Flow, frame, frame)?;
+    Ok(hash_of(memory.as_slice()))
 }
 
 // The packet of a pair.
 fn turn_of(
-    alloc: Global,
+    memory: &mut Vec<u8>,
     pair: (u32, u32),
     frames: &[&[u8]],
     starts: &[u32],
 ) -> Result<Turn, AllocError>
-    ensures { IfOk result (λ turn. coming turn ≡ coming_of frames.now starts.now pair) }
+    ensures coming { IfOk result (λ turn. coming frames.now turn ≡ coming_of frames.now starts.now pair) }
+    ensures hash { IfOk result (IsHashed frames.now) }
 {
     let (wanted, got) = pair;
-    let flow = flow_of(alloc, frame_at(frames, wanted))?;
     Ok(Turn {
         file: file_of(starts, got),
-        hash: hash_of(flow.as_slice()),
-        flow: flow.into_vec(),
+        hash: flow_hash(memory, frame_at(frames, wanted))?,
         got,
         wanted,
     })
@@ -52,58 +55,102 @@ fn turns(
     frames: &[&[u8]],
     starts: &[u32],
 ) -> Result<Vec<Turn>, AllocError>
-    ensures { IfOk result (λ turns. map coming turns.items ≡ map (coming_of frames.now starts.now) pairs.now) }
+    ensures coming { IfOk result (λ turns. map (coming frames.now) turns.items ≡ map (coming_of frames.now starts.now) pairs.now) }
+    ensures hashes { IfOk result (λ turns. All (IsHashed frames.now) turns.items) }
 {
     let mut turns = Vec::with_capacity(alloc, pairs.len())?;
+    let mut memory = Vec::new(alloc);
     for pair in pairs {
-        turns.push(turn_of(alloc, *pair, frames, starts)?)?;
+        turns.push(turn_of(&mut memory, *pair, frames, starts)?)?;
     }
     Ok(turns)
 }
 
-// Whether both are of one savefile and one flow.
-fn is_one_flow(one: &Turn, other: &Turn) -> bool
-    ensures { result ≡ is_in_one_flow (coming one.now) (coming other.now) }
+// Whether two frames are of one flow.
+#[tactic(auto, unfolding(crate::specs::Orders::flow_of))]
+fn have_one_flow(one: &[u8], other: &[u8]) -> bool
+    ensures { IsTrue result → flow_in one.now ≡ flow_in other.now }
 {
-    one.file == other.file && one.flow.as_slice() == other.flow.as_slice()
+    have_same_parts(Likeness::Flow, one, other)
 }
 
-// How many turns, in the order of savefile, flow and coming, stand behind one of the same that had to come later.
-#[tactic(auto, using(crate::proofs::OrderLemmas::late_more))]
-fn late(turns: &[Turn]) -> usize
-    ensures { result ≡ late_among (map coming turns.now) }
+// Whether both are of one savefile and one flow; nothing where two flows have one hash.
+fn is_one_flow(one: &Turn, other: &Turn, frames: &[&[u8]]) -> Option<bool>
+    requires one { IsHashed frames.now one.now }
+    requires other { IsHashed frames.now other.now }
+    ensures value { IfSome result (λ is. is ≡ is_in_one_flow (coming frames.now one.now) (coming frames.now other.now)) }
+    ensures told { IfSome result (λ _. AreTold frames.now one.now other.now) }
 {
-    let Some((first, others)) = turns.split_first() else {
-        return 0;
-    };
+    if one.file != other.file || one.hash != other.hash {
+        return Some(false);
+    }
+    if have_one_flow(frame_at(frames, one.wanted), frame_at(frames, other.wanted)) {
+        Some(true)
+    } else {
+        None
+    }
+}
+
+// How many turns, in their order, stand behind one of the same savefile and flow that had to come later; the one before them. Nothing where
+// two flows have one hash.
+#[tactic(auto, using(crate::proofs::OrderLemmas::late_more_in))]
+fn late_behind(first: Turn, others: &[Turn], frames: &[&[u8]]) -> Option<usize>
+    requires first { IsHashed frames.now first }
+    requires others { All (IsHashed frames.now) others.now }
+    ensures value { IfSome result (λ count. count ≡ late_among_others (coming frames.now first) first.wanted (map (coming frames.now) others.now)) }
+    ensures told { IfSome result (λ _. AreToldBehind frames.now first others.now) }
+{
     let mut before = first;
     let mut latest = first.wanted;
     let mut count = 0;
     for turn in others {
-        if is_one_flow(before, turn) && turn.wanted < latest {
+        let Some(is_one) = is_one_flow(&before, turn, frames) else {
+            return None;
+        };
+        if is_one && turn.wanted < latest {
             count += 1;
         } else {
             latest = turn.wanted;
         }
-        before = turn;
+        before = *turn;
     }
-    count
+    Some(count)
 }
 
-/// How many equal packets stand the other way round within their flow: behind one, in the same savefile, that had to come later.
+// How many turns, in their order, stand behind one of the same savefile and flow that had to come later. Nothing where two flows have one
+// hash.
+#[tactic(auto, using(crate::proofs::OrderLemmas::first_hashed, crate::proofs::OrderLemmas::others_hashed))]
+fn late(turns: &[Turn], frames: &[&[u8]]) -> Option<usize>
+    requires { All (IsHashed frames.now) turns.now }
+    ensures value { IfSome result (λ count. count ≡ late_among (map (coming frames.now) turns.now)) }
+    ensures told { IfSome result (λ _. AreAllTold frames.now turns.now) }
+{
+    match turns.split_first() {
+        Some((first, others)) => late_behind(*first, others, frames),
+        None => Some(0),
+    }
+}
+
+/// How many of these pairs of equal packets stand the other way round within their flow: behind one, in the same savefile, that had to come
+/// later.
+///
+/// They are put in order by the hashes of their flows; only where two flows have one hash, by the flows themselves.
 ///
 /// # Errors
 ///
 /// [`AllocError`] where memory runs out.
 pub fn reordered(
     alloc: Global,
-    diff: &Diff,
+    pairs: &[(u32, u32)],
     frames: &[&[u8]],
     starts: &[u32],
 ) -> Result<u64, AllocError>
-    ensures { IfOk result (AreReordered frames.now starts.now diff.now.same.items) }
+    ensures { IfOk result (AreReordered frames.now starts.now pairs.now) }
 {
-    let mut turns = turns(alloc, diff.same.as_slice(), frames, starts)?;
+    let mut turns = turns(alloc, pairs, frames, starts)?;
     turns.sort()?;
-    Ok(late(turns.as_slice()) as u64)
+    match late(turns.as_slice(), frames) {
+        Some(count) => Ok(count as u64),
+        None => reordered_by_flows(alloc, pairs, frames, starts),
+    }
 }

@@ -1,5 +1,5 @@
 //! The top call.
-ghost use Rattle.std.specs.Prelude.{◌≡◌, ◌≢◌, ◌↔◌, ◌⊎◌, ℕ, List, IfOk};
+ghost use Rattle.std.specs.Prelude.{◌≡◌, ◌≢◌, ◌↔◌, ◌⊎◌, ℕ, ◌+◌, ◌≤◌, List, length, IfOk};
 ghost use Rattle.vg_match.specs.Diffs.{AllMatch};
 ghost use Rattle.vg_match.specs.Sides.{seen};
 ghost use Rattle.vg_outside.specs.Files.{Rose};
@@ -16,7 +16,7 @@ use crate::printing::print;
 use crate::refusals::{Refusal, Stop};
 use crate::words::{Ask, WordsError, asked, script_of_router};
 use std::alloc::{AllocError, Global};
-use vg_match::{Diff, Field, Range, left_out};
+use vg_match::{Diff, Field, Range};
 use vg_outside::{Folder, Sink};
 use vg_report::Report;
 
@@ -33,6 +33,23 @@ fn status_of(diff: &Diff) -> u8
     ensures all { (result ≡ 0) ↔ AllMatch diff.now }
 {
     if diff.all_match() { 0 } else { 9 }
+}
+
+// How many of so many packets that had to come are left out: all but those that are the same, changed or missing.
+fn wanted_left_out(diff: &Diff, all: usize) -> u64
+    requires { length diff.now.same.items + (length diff.now.changed.items + length diff.now.missing.items) ≤ all }
+    ensures { result + (length diff.now.same.items + (length diff.now.changed.items + length diff.now.missing.items)) ≡ all }
+{
+    (all - diff.same.len() - diff.changed.len() - diff.missing.len()) as u64
+}
+
+// How many of so many packets that came are left out: all but those that are the same, changed, there or extra.
+fn got_left_out(diff: &Diff, all: usize) -> u64
+    requires { length diff.now.same.items + (length diff.now.changed.items + (length diff.now.there.items + length diff.now.extra.items)) ≤ all }
+    ensures { result + (length diff.now.same.items + (length diff.now.changed.items + (length diff.now.there.items + length diff.now.extra.items))) ≡ all }
+{
+    let rest = all - diff.same.len() - diff.changed.len();
+    (rest - diff.there.len() - diff.extra.len()) as u64
 }
 
 // The packets of a comparison, and what is printed of them.
@@ -62,13 +79,13 @@ fn due_of(
         (record { wanted = seen sides.now.wanted.now; got = seen sides.now.got.now; dropped = seen sides.now.drops.now }) due.status due.text.items) }
 {
     let diff = differences(alloc, sides.wanted, sides.got, sides.drops, ignored, only)?;
-    let reordered = reordered(alloc, &diff, sides.wanted, sides.starts)?;
-    let wanted_noise = left_out(only, sides.wanted);
-    let got_noise = left_out(only, sides.got);
+    let reordered = reordered(alloc, diff.same.as_slice(), sides.wanted, sides.starts)?;
+    let wanted_noise = wanted_left_out(&diff, sides.wanted.len());
+    let got_noise = got_left_out(&diff, sides.got.len());
     let found = Findings {
         diff: &diff,
         reordered,
-        noise: (wanted_noise as u64, got_noise as u64),
+        noise: (wanted_noise, got_noise),
         wanted: sides.wanted,
         sent: sides.sent,
         got: sides.got,

@@ -22,6 +22,13 @@ const SECOND: [u8; 45] = [
     0, 1, 0, 2, 0, 11, 0, 0, b'x', b'y', b'z',
 ];
 
+/// A datagram from 10.0.201.228 to 211.0.0.152, port 62596 to 2: of another flow than FIRST, whose hash is that of FIRST's.
+const TWIN: [u8; 45] = [
+    2, 0, 0, 0, 0, 0xb, 2, 0xfe, 0, 0, 0, 1, 8, 0, // frame
+    0x45, 0, 0, 31, 0, 4, 0, 0, 63, 17, 0xd4, 0x4d, 10, 0, 201, 228, 211, 0, 0, 152, // IPv4
+    0xf4, 0x84, 0, 2, 0, 11, 0, 0, b't', b'w', b'o',
+];
+
 /// A datagram to 10.9.0.9, for which there is no route.
 const ASTRAY: [u8; 45] = [
     2, 0xfe, 0, 0, 0, 0, 2, 0, 0, 0, 0, 0xa, 8, 0, // frame
@@ -167,6 +174,13 @@ fn equal_sets_match_in_any_order(rt: HostRuntime) {
 }
 
 #[test]
+fn flows_of_one_hash_are_two(rt: HostRuntime) {
+    let (status, text) = compare_with(&rt, &[], &[&FIRST, &TWIN], &[&TWIN, &FIRST]);
+    assert_eq!(rt; status, 0);
+    assert!(rt; text.as_slice() == b"same 2\nreordered 0\nnoise 0 0\nend\n".as_slice());
+}
+
+#[test]
 fn padding_and_noise_do_not_count(rt: HostRuntime) {
     let first = padded(&rt, &FIRST);
     let (status, text) = compare(&rt, &[], &[&ARP, first.as_slice(), &SECOND]);
@@ -300,6 +314,10 @@ fn refusals_have_their_status_and_their_line(rt: HostRuntime) {
         (["nowhere", "r", "t"], 3, "load nowhere\n"),
         (["bad", "r", "t"], 4, "capture not-pcap 0\n"),
         (["t", "bad", "t"], 5, "report 1 form\n"),
+        (["t", "bad", "bad"], 5, "report 1 form\n"),
+        (["t", "bad", "nowhere"], 5, "report 1 form\n"),
+        (["bad", "nowhere", "t"], 4, "capture not-pcap 0\n"),
+        (["t", "r", "nowhere"], 3, "load nowhere\n"),
         (["t", "r", "t"], 5, "report packets\n"),
     ] {
         let mut out = SureSink::new(alloc);

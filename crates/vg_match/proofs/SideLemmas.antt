@@ -55,6 +55,3 @@ pub out_or_named : (only : List Range) (number : ℕ) (frames : List (List ℕ))
 out_or_named only number [] = refl
 out_or_named only number (frame ∷ frames) =
     one_more (is_meant only frame) number (left_out only frames) (meant_numbers only (suc number) frames) (length frames) (out_or_named only (suc number) frames)
-
-pub all_out_or_named : (only : List Range) (frames : List (Bor (List ℕ))) → left_out only (seen frames) + length (meant_numbers only 0 (seen frames)) ≡ length frames
-all_out_or_named only frames = out_or_named only 0 (seen frames) ∙ length-map frames (λ (frame : Bor (List ℕ)). frame.now)

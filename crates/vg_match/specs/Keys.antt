@@ -1,5 +1,5 @@
 -- What frames are compared by.
-use Rattle.std.specs.Prelude.{ℕ, suc, ◌+◌, List, [], ◌∷◌, ◌++◌, take, drop, Option, Some, None, if◌then◌else◌}
+use Rattle.std.specs.Prelude.{ℕ, suc, ◌+◌, Bool, ◌&&◌, ◌==◌, List, [], ◌∷◌, ◌++◌, take, drop, bytes_eq, Option, Some, None, if◌then◌else◌}
 use Rattle.vg_match.specs.declared.fields.Field.{Field}
 use Rattle.vg_match.specs.declared.fields.Span.{Span}
 use Rattle.vg_match.specs.declared.frames.Carried.{Carried}
@@ -79,6 +79,12 @@ parts_of likeness layout = parts_at layout.carried likeness layout
 -- the parts, one behind the other
 abbrev pub joined : Parts → List ℕ → List ℕ
 joined parts bytes = parts.version ∷ [] ++ cut bytes parts.first ++ cut bytes parts.second ++ cut bytes parts.third ++ from bytes parts.rest
+
+-- both are the same in each of their parts
+abbrev pub has_parts : Parts → List ℕ → Parts → List ℕ → Bool
+has_parts parts bytes others more =
+    parts.version == others.version && bytes_eq (cut bytes parts.first) (cut more others.first) && bytes_eq (cut bytes parts.second) (cut more others.second)
+    && bytes_eq (cut bytes parts.third) (cut more others.third) && bytes_eq (from bytes parts.rest) (from more others.rest)
 
 -- what frames are alike by, of what they are compared by
 abbrev pub likeness_of : Likeness → List Field → List ℕ → List ℕ

@@ -1,7 +1,7 @@
 //! What frames are compared by.
-ghost use Rattle.std.specs.Prelude.{◌≡◌, IfOk};
+ghost use Rattle.std.specs.Prelude.{◌≡◌, ◌++◌, IfOk, OnOk, IsTrue};
 ghost use Rattle.vg_match.specs.Frames.{IsSmall, layout_of as layout_in};
-ghost use Rattle.vg_match.specs.Keys.{compared as compared_bytes, kept as kept_at, cut as cut_of, from as bytes_from, joined};
+ghost use Rattle.vg_match.specs.Keys.{compared as compared_bytes, kept as kept_at, cut as cut_of, from as bytes_from, joined, has_parts};
 ghost use Rattle.vg_match.specs.Keys.{parts_of as parts_alike, other_parts as parts_alike_of_others, ports_span as span_of_ports, identification_span as span_of_identification};
 
 use crate::fields::{Field, Span, is_among};
@@ -173,6 +173,30 @@ fn room_for(parts: &Parts, rest: &[u8]) -> usize {
     spans.saturating_add(rest.len()).saturating_add(1)
 }
 
+/// Appends what a frame is alike by, of the bytes that it is compared by.
+///
+/// # Errors
+///
+/// [`AllocError`] where memory runs out.
+pub fn put_likeness(
+    out: &mut Vec<u8>,
+    likeness: Likeness,
+    frame: &[u8],
+    key: &[u8],
+) -> Result<(), AllocError>
+    ensures { OnOk result (out.new.items ≡ out.old.items ++ joined (parts_alike likeness (layout_in frame.now)) key.now) }
+{
+    let parts = parts_of(likeness, &layout_of(frame));
+    let rest = from(key, parts.rest);
+    out.reserve_exact(room_for(&parts, rest))?;
+    out.push(parts.version)?;
+    out.extend_from_slice(cut(key, parts.first))?;
+    out.extend_from_slice(cut(key, parts.second))?;
+    out.extend_from_slice(cut(key, parts.third))?;
+    out.extend_from_slice(rest)?;
+    Ok(())
+}
+
 /// What a frame is alike by, of the bytes that it is compared by.
 ///
 /// # Errors
@@ -186,13 +210,21 @@ pub fn likeness_of(
 ) -> Result<Bytes, AllocError>
     ensures { IfOk result (λ bytes. bytes ≡ joined (parts_alike likeness (layout_in frame.now)) key.now) }
 {
-    let parts = parts_of(likeness, &layout_of(frame));
-    let rest = from(key, parts.rest);
-    let mut out = Vec::with_capacity(alloc, room_for(&parts, rest))?;
-    out.push(parts.version)?;
-    out.extend_from_slice(cut(key, parts.first))?;
-    out.extend_from_slice(cut(key, parts.second))?;
-    out.extend_from_slice(cut(key, parts.third))?;
-    out.extend_from_slice(rest)?;
+    let mut out = Vec::new(alloc);
+    put_likeness(&mut out, likeness, frame, key)?;
     Ok(Bytes::from_vec(out))
+}
+
+/// Whether two frames are the same in each part by which they may be alike; where they are, they are alike. Nothing is copied.
+pub fn have_same_parts(likeness: Likeness, one: &[u8], other: &[u8]) -> bool
+    ensures value { result ≡ has_parts (parts_alike likeness (layout_in one.now)) one.now (parts_alike likeness (layout_in other.now)) other.now }
+    ensures alike { IsTrue result → joined (parts_alike likeness (layout_in one.now)) one.now ≡ joined (parts_alike likeness (layout_in other.now)) other.now }
+{
+    let mine = parts_of(likeness, &layout_of(one));
+    let theirs = parts_of(likeness, &layout_of(other));
+    mine.version == theirs.version
+        && cut(one, mine.first) == cut(other, theirs.first)
+        && cut(one, mine.second) == cut(other, theirs.second)
+        && cut(one, mine.third) == cut(other, theirs.third)
+        && from(one, mine.rest) == from(other, theirs.rest)
 }

@@ -1,7 +1,7 @@
 //! The packets of one side.
-ghost use Rattle.std.specs.Prelude.{◌≡◌, ◌+◌, ◌<◌, ◌++◌, [], length, map, All, IfOk, OnOk};
+ghost use Rattle.std.specs.Prelude.{◌≡◌, ◌<◌, ◌++◌, [], length, map, All, IfOk, OnOk};
 ghost use Rattle.vg_match.specs.Keys.{compared as compared_bytes};
-ghost use Rattle.vg_match.specs.Sides.{is_meant as is_meant_frame, left_out as count_left_out, IsSide, seen, number_of, key_of, meant_number, meant_numbers, frame_at, IsOf, alike_at};
+ghost use Rattle.vg_match.specs.Sides.{is_meant as is_meant_frame, IsSide, seen, number_of, key_of, meant_number, meant_numbers, frame_at, IsOf, alike_at};
 
 use crate::fields::Field;
 use crate::frames::front;
@@ -83,27 +83,6 @@ pub fn is_meant(only: &[Range], frame: &[u8]) -> bool
     ensures { result ≡ is_meant_frame only.now frame.now }
 {
     !is_noise(frame) && is_in_reach(only, frame)
-}
-
-// How many frames aren't meant.
-fn not_meant(only: &[Range], frames: &[&[u8]]) -> usize
-    ensures { result ≡ count_left_out only.now (seen frames.now) }
-{
-    let mut count = 0;
-    for frame in frames {
-        if !is_meant(only, frame) {
-            count += 1;
-        }
-    }
-    count
-}
-
-/// How many frames are left out, since they aren't meant.
-pub fn left_out(only: &[Range], frames: &[&[u8]]) -> usize
-    ensures value { result ≡ count_left_out only.now (seen frames.now) }
-    ensures others { result + length (meant_numbers only.now 0 (seen frames.now)) ≡ length frames.now }
-{
-    not_meant(only, frames)
 }
 
 // Adds the entry of a number, where its frame is meant.

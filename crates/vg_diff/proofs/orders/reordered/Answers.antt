@@ -1,16 +1,25 @@
-use Rattle.std.proofs.Common.{map, subst, ap, ◌∙◌}
+use Rattle.std.proofs.Common.{map, subst, sym, ap, ◌∙◌, All}
 use Rattle.std.specs.List.Sorted.{IsPermutation}
-use Rattle.std.proofs.lemmas.List.Sorted.{IsPermutation-map}
-use Rattle.vg_diff.specs.Orders.{coming, coming_of, late}
+use Rattle.std.proofs.lemmas.List.Sorted.{IsPermutation-map, All-permutation}
+use Rattle.vg_diff.specs.Orders.{coming, coming_of, coming_cmp, late, IsHashed, AreAllTold}
+use Rattle.vg_diff.proofs.OrderLemmas.{sorted_map, told_sorted}
 use Rattle.vg_diff.proofs.orders.reordered.Goals as goal
 
-pub returns : goal.returns
-returns c = record {
-  all = c.sort.new.self.items;
-  each =
-      subst (λ pairs. IsPermutation pairs (map coming c.sort.new.self.items))
-      (c.in_ok-turns.ensures ∙ ap (map (coming_of c.args.frames.now c.args.starts.now)) c.as_slice.ensures.value)
-      (IsPermutation-map coming _ _ c.in_ok-sort.ensures.permutation);
-  rise = c.in_ok-sort.ensures.sorted;
-  is = c.late.ensures ∙ ap (λ all. late (map coming all)) c.as_slice-2.ensures.value;
-}
+pub late-requires : goal.late-requires
+late-requires c =
+    subst (All (IsHashed c.args.frames.now)) (sym c.as_slice.ensures.value)
+    (All-permutation (IsHashed c.args.frames.now) _ _ c.in_ok-sort.ensures.permutation c.in_ok-turns.ensures.hashes)
+
+pub returns-in-Some : goal.returns-in-Some
+returns-in-Some c =
+    let frames = c.args.frames.now in
+    let turns = c.sort.new.self.items in
+    record {
+      all = map (coming frames) turns;
+      each =
+          subst (λ pairs. IsPermutation pairs (map (coming frames) turns)) c.in_ok-turns.ensures.coming
+          (IsPermutation-map (coming frames) _ _ c.in_ok-sort.ensures.permutation);
+      rise = sorted_map (coming frames) coming_cmp turns
+          (told_sorted frames turns c.in_ok-sort.ensures.sorted (subst (AreAllTold frames) c.as_slice.ensures.value c.in-Some.ensures.told));
+      is = c.in-Some.ensures.value ∙ ap (λ all. late (map (coming frames) all)) c.as_slice.ensures.value;
+    }

@@ -1,26 +1,21 @@
--- For the clause of `turn_of`: its flow is that of the frame, and its hash that of the flow.
+-- For the clauses of `turn_of`: the hash is that of the frame's flow.
 use Rattle.std.proofs.Common.{◌≡◌, ℕ, List, ap, ◌∙◌}
 use Rattle.vg_match.specs.Hashes.{hash_of}
-use Rattle.vg_diff.specs.Lines.{frame_at, file_of}
+use Rattle.vg_diff.specs.Lines.{frame_at}
 use Rattle.vg_diff.specs.Orders.{Coming, flow_of}
 use Rattle.vg_diff.proofs.orders.turn_of.Goals as goal
 
--- a packet that came, with its flow and the hash of that
-abbrev with_flow : (file got wanted : ℕ) → List ℕ → Coming
-with_flow file got wanted flow = record { file = file; hash = hash_of flow; flow = flow; got = got; wanted = wanted }
+-- a packet that came
+abbrev came : (file hash : ℕ) → (flow : List ℕ) → (got wanted : ℕ) → Coming
+came file hash flow got wanted = record { file = file; hash = hash; flow = flow; got = got; wanted = wanted }
 
-pub returns : goal.returns
-returns c =
+pub returns-clause-coming : goal.returns-clause-coming
+returns-clause-coming c =
     let wanted = c.args.pair.0 in
     let got = c.args.pair.1 in
-    let file = c.file_of.result in
-    let flow : List ℕ = c.in_ok-flow.flow in
-    let made : List ℕ = c.into_vec.result.items in
-    let hashed : c.hash_of.result ≡ hash_of flow = c.hash_of.ensures ∙ ap hash_of c.as_slice.ensures in
-    let same : made ≡ flow = c.into_vec.ensures in
-    let is : flow ≡ flow_of (frame_at c.args.frames.now wanted) = c.in_ok-flow.ensures ∙ ap flow_of c.frame_at.ensures in
-    let stands : file ≡ file_of c.args.starts.now got = c.file_of.ensures in
-    ap (λ hash. record { file = file; hash = hash; flow = made; got = got; wanted = wanted }) hashed
-    ∙ ap (λ flow'. record { file = file; hash = hash_of flow; flow = flow'; got = got; wanted = wanted }) same
-    ∙ ap (with_flow file got wanted) is
-    ∙ ap (λ file'. with_flow file' got wanted (flow_of (frame_at c.args.frames.now wanted))) stands
+    let flow : List ℕ = flow_of (frame_at c.args.frames.now wanted) in
+    let hashed : c.in_ok-flow_hash.field-0 ≡ hash_of flow = c.in_ok-flow_hash.ensures ∙ ap (λ frame. hash_of (flow_of frame)) c.frame_at.ensures in
+    ap (λ hash. came c.file_of.result hash flow got wanted) hashed ∙ ap (λ file. came file (hash_of flow) flow got wanted) c.file_of.ensures
+
+pub returns-clause-hash : goal.returns-clause-hash
+returns-clause-hash c = c.in_ok-flow_hash.ensures ∙ ap (λ frame. hash_of (flow_of frame)) c.frame_at.ensures

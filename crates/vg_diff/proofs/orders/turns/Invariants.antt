@@ -1,6 +1,7 @@
-use Rattle.std.proofs.Common.{◌≡◌, map, take}
-use Rattle.vg_diff.specs.Orders.{coming, coming_of}
+use Rattle.std.proofs.Common.{◌≡◌, map, take, All}
+use Rattle.vg_diff.specs.Orders.{coming, coming_of, IsHashed}
 use Rattle.vg_diff.proofs.orders.turns.Given as goal
 
 abbrev pub invariant-loop-pair : goal.invariant-loop-pair
-invariant-loop-pair l = map coming l.turns.items ≡ map (coming_of l.frames l.starts) (take l.pair-index l.pairs)
+invariant-loop-pair l =
+    (map (coming l.frames) l.turns.items ≡ map (coming_of l.frames l.starts) (take l.pair-index l.pairs)) × All (IsHashed l.frames) l.turns.items
