@@ -4,3 +4,4 @@ pub mod Run
 pub mod Texts
 pub mod Refusals
 pub mod Dues
+pub mod Matches

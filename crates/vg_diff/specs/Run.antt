@@ -47,16 +47,10 @@ pub record IsCaptureAt (files : Option Files) (name : List ℕ) (capture : Captu
 abbrev pub largest_report : ℕ
 largest_report = 16777216
 
--- this is the report of that name
-pub record IsReportAt (files : Option Files) (name : List ℕ) (report : Report) : Type 0 where
-  pub bytes : List ℕ
-  pub loaded : FirstBytes files name (largest_report + 1) bytes
-  pub is_report : report_of bytes ≡ Ok report
-
--- the files of these names hold this: a run's savefile and report, and the savefiles of another router
+-- the files of these names hold this: a run's savefile, the text of its report, and the savefiles of another router
 pub record IsInput (files : Option Files) (tx report : List ℕ) (others : List (List ℕ)) (input : Input) : Type 0 where
   pub tx_is : IsCaptureAt files tx input.tx
-  pub report_is : IsReportAt files report input.report
+  pub text_is : FirstBytes files report (largest_report + 1) input.text
   pub others_are : AllZip (IsCaptureAt files) others input.others.items
 
 -- ---- what is found
@@ -120,10 +114,16 @@ terms_of ask = record { ignored = ask.ignored.items; only = ask.only.items; mann
 abbrev pub compared_in : Input → (dropped : List (List ℕ)) → Compared
 compared_in input dropped = record { wanted = packet_bytes input.tx.packets; got = all_bytes input.others.items; dropped = dropped }
 
+-- the text is that of a report, and this status and this text to print say how the packets differ
+pub record AnswersIn (terms : Terms) (input : Input) (due : Due) : Type 0 where
+  pub report : Report
+  pub is_report : report_of input.text ≡ Ok report
+  pub dropped : List (List ℕ)
+  pub is_answer : IsAnswer terms (compared_in input dropped) due.status due.text.items
+
 -- the files that are asked for hold a run's savefile and report and another router's savefiles, and this status and this text say how their
 -- packets differ
 pub record Answers (files : Option Files) (ask : Ask) (due : Due) : Type 0 where
   pub input : Input
   pub is_input : IsInput files ask.tx.now ask.report.now (texts ask.others.now) input
-  pub dropped : List (List ℕ)
-  pub is_answer : IsAnswer (terms_of ask) (compared_in input dropped) due.status due.text.items
+  pub answers_in : AnswersIn (terms_of ask) input due

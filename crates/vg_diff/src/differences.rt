@@ -80,16 +80,13 @@ pub fn numbers_of(alloc: Global, report: &Report, were_sent: bool) -> Result<Vec
     Ok(numbers)
 }
 
-/// The frames of these numbers of a capture, as far as it is given.
+/// The frames of these numbers of a capture.
 pub fn frames_at<'a>(
     alloc: Global,
-    capture: &'a Option<Capture>,
+    capture: &'a Capture,
     numbers: &[u32],
 ) -> Result<Vec<&'a [u8]>, AllocError> {
     let mut frames = Vec::new(alloc);
-    let Some(capture) = capture else {
-        return Ok(frames);
-    };
     for number in numbers {
         let number = *number as usize;
         if number < capture.packets.len() {

@@ -1,8 +1,9 @@
 //! What the files say.
-ghost use Rattle.std.specs.Prelude.{◌≡◌, ◌+◌, ◌++◌, ◌∷◌, [], IfOk, OnOk};
+ghost use Rattle.std.specs.Prelude.{◌≡◌, ◌+◌, ◌++◌, ◌∷◌, [], Ok, IfOk, OnOk};
 ghost use Rattle.std.specs.List.{AllZip};
 ghost use Rattle.vg_outside.specs.Files.{FirstBytes};
-ghost use Rattle.vg_diff.specs.Run.{texts, IsCaptureAt, IsReportAt, IsInput};
+ghost use Rattle.vg_report.specs.Reading.{report_of};
+ghost use Rattle.vg_diff.specs.Run.{texts, IsCaptureAt, IsInput};
 
 use crate::refusals::{Refusal, Stop};
 use crate::words::Ask;
@@ -17,13 +18,13 @@ use vg_script::{LARGEST_SCRIPT, ScriptCause, ScriptError, parse_script};
 /// The most bytes that are read of a report; a lawful one has fewer.
 pub const LARGEST_REPORT: usize = 16_777_216;
 
-/// What the files say.
+/// What the files say, and the text of the report, which is read later.
 #[derive(Drop)]
 pub struct Input {
     /// The packets that the run transmitted.
     pub tx: Capture,
-    /// What became of the run's packets.
-    pub report: Report,
+    /// The text that says what became of the run's packets.
+    pub text: Bytes,
     /// The packets that came into the run, where its capture is given.
     pub capture: Option<Capture>,
     /// The packets that the other router transmitted.
@@ -62,19 +63,10 @@ fn load_capture<'a, F: Folder>(
     }
 }
 
-// Loads a report and reads it.
-fn load_report<'a, F: Folder>(
-    alloc: Global,
-    folder: &mut F,
-    name: &'a str,
-) -> Result<Report, Stop<'a>>
-    ensures report { IfOk result (IsReportAt (F.contents folder.old) name.now) }
-    ensures same { F.contents folder.new ≡ F.contents folder.old }
+// Reads the text of a report.
+fn read<'a>(alloc: Global, text: &Bytes) -> Result<Report, Stop<'a>>
+    ensures { IfOk result (λ report. report_of text.now ≡ Ok report) }
 {
-    let text = match load_file(folder, name, LARGEST_REPORT) {
-        Ok(text) => text,
-        Err(stop) => return Err(stop),
-    };
     match read_report(alloc, text.as_slice()) {
         Ok(report) => Ok(report),
         Err(fault) => match fault.cause {
@@ -151,8 +143,16 @@ fn is_of(report: &Report, tx: &Capture, capture: &Option<Capture>) -> bool {
     known && transmitted(report) == tx.packets.len()
 }
 
-/// Loads and reads all files that are asked for: the savefile of the run, its report, its capture where it is named, and those of the other
-/// router.
+// What the call stops with where a file behind the report stops it: with the report, where that is none.
+fn first_stop<'a>(alloc: Global, text: &Bytes, behind: Stop<'a>) -> Stop<'a> {
+    match read(alloc, text) {
+        Ok(_) => behind,
+        Err(stop) => stop,
+    }
+}
+
+/// Loads all files that are asked for, and reads them but for the report: the savefile of the run, its report, its capture where it is named,
+/// and the savefiles of the other router.
 pub fn load_input<'a, F: Folder>(
     alloc: Global,
     folder: &mut F,
@@ -165,27 +165,39 @@ pub fn load_input<'a, F: Folder>(
         Ok(tx) => tx,
         Err(stop) => return Err(stop),
     };
-    let report = match load_report(alloc, folder, ask.report) {
-        Ok(report) => report,
+    let text = match load_file(folder, ask.report, LARGEST_REPORT) {
+        Ok(text) => text,
         Err(stop) => return Err(stop),
     };
     let capture = match load_named(alloc, folder, ask.capture) {
         Ok(capture) => capture,
-        Err(stop) => return Err(stop),
+        Err(stop) => return Err(first_stop(alloc, &text, stop)),
     };
     let others = match load_all(alloc, folder, ask.others) {
         Ok(others) => others,
-        Err(stop) => return Err(stop),
+        Err(stop) => return Err(first_stop(alloc, &text, stop)),
     };
-    if !is_of(&report, &tx, &capture) {
-        return Err(Stop::Refused(Refusal::Packets));
-    }
     Ok(Input {
         tx,
-        report,
+        text,
         capture,
         others,
     })
+}
+
+/// The report of a run whose files were loaded: its text is read, and it has as many packets as these files.
+pub fn report_in<'a>(alloc: Global, input: &Input) -> Result<Report, Stop<'a>>
+    ensures { IfOk result (λ report. report_of input.now.text ≡ Ok report) }
+{
+    let report = match read(alloc, &input.text) {
+        Ok(report) => report,
+        Err(stop) => return Err(stop),
+    };
+    if is_of(&report, &input.tx, &input.capture) {
+        Ok(report)
+    } else {
+        Err(Stop::Refused(Refusal::Packets))
+    }
 }
 
 // What a script's fault stops the call with.

@@ -1,14 +1,16 @@
 //! The top call.
-ghost use Rattle.std.specs.Prelude.{◌≡◌, ◌≢◌, ◌↔◌, ◌⊎◌, ℕ, ◌+◌, ◌≤◌, List, length, IfOk};
+ghost use Rattle.std.specs.Prelude.{◌≡◌, ◌≢◌, ◌↔◌, ◌⊎◌, ℕ, ◌+◌, ◌≤◌, List, [], length, IfOk};
 ghost use Rattle.vg_match.specs.Diffs.{AllMatch};
 ghost use Rattle.vg_match.specs.Sides.{seen};
 ghost use Rattle.vg_outside.specs.Files.{Rose};
+ghost use Rattle.vg_report.specs.Reading.{report_of};
 ghost use Rattle.vg_diff.specs.Dues.{IsFoundStatus, IsDueStatus};
-ghost use Rattle.vg_diff.specs.Run.{compared_in, IsAnswer, Answers};
+ghost use Rattle.vg_diff.specs.Matches.{AreMatches};
+ghost use Rattle.vg_diff.specs.Run.{packet_bytes, all_bytes, terms_of, IsAnswer, AnswersIn, Answers};
 
 use crate::answers::{Manner, text_of};
 use crate::differences::{differences, frames_at, frames_in, frames_of, numbers_of, starts_of};
-use crate::input::{Input, load_input, load_plan};
+use crate::input::{Input, load_input, load_plan, report_in};
 use crate::lines::Findings;
 use crate::linux::commands;
 use crate::orders::reordered;
@@ -16,6 +18,8 @@ use crate::printing::print;
 use crate::refusals::{Refusal, Stop};
 use crate::words::{Ask, WordsError, asked, script_of_router};
 use std::alloc::{AllocError, Global};
+use std::thread::{Threads, join};
+use vg_capture::Capture;
 use vg_match::{Diff, Field, Range};
 use vg_outside::{Folder, Sink};
 use vg_report::Report;
@@ -52,91 +56,229 @@ fn got_left_out(diff: &Diff, all: usize) -> u64
     (rest - diff.there.len() - diff.extra.len()) as u64
 }
 
-// The packets of a comparison, and what is printed of them.
+// The frames of a comparison.
 #[derive(Clone, Copy)]
-struct Sides<'a> {
-    // The frames of the run's savefile, and the numbers that its packets have in the run.
+struct Frames<'a> {
+    // Those of the run's savefile.
     wanted: &'a [&'a [u8]],
-    sent: &'a [u32],
-    // The frames that came, and the numbers of the first packet of each savefile but the first.
+    // Those that came, and the numbers of the first packet of each savefile but the first.
     got: &'a [&'a [u8]],
     starts: &'a [u32],
-    // The frames that were dropped, as far as they are known, and the numbers that these packets have in the run.
-    drops: &'a [&'a [u8]],
-    dropped: &'a [u32],
-    report: &'a Report,
 }
 
-// What is due for the packets of both sides.
-fn due_of(
+// What is found of frames.
+#[derive(Drop)]
+struct Matches {
+    diff: Diff,
+    // How many of those that are the same came in another order.
+    reordered: u64,
+}
+
+// What is found of frames and of those that were dropped.
+fn matches_of(
     alloc: Global,
-    sides: &Sides<'_>,
+    frames: &Frames<'_>,
+    drops: &[&[u8]],
     ignored: &[Field],
     only: &[Range],
-    manner: Manner,
-) -> Result<Due, AllocError>
-    ensures { IfOk result (λ due. IsAnswer (record { ignored = ignored.now; only = only.now; manner = manner })
-        (record { wanted = seen sides.now.wanted.now; got = seen sides.now.got.now; dropped = seen sides.now.drops.now }) due.status due.text.items) }
+) -> Result<Matches, AllocError>
+    ensures { IfOk result (AreMatches ignored.now only.now frames.now.wanted.now frames.now.got.now frames.now.starts.now (seen drops.now)) }
 {
-    let diff = differences(alloc, sides.wanted, sides.got, sides.drops, ignored, only)?;
-    let reordered = reordered(alloc, diff.same.as_slice(), sides.wanted, sides.starts)?;
-    let wanted_noise = wanted_left_out(&diff, sides.wanted.len());
-    let got_noise = got_left_out(&diff, sides.got.len());
-    let found = Findings {
-        diff: &diff,
-        reordered,
-        noise: (wanted_noise, got_noise),
-        wanted: sides.wanted,
-        sent: sides.sent,
-        got: sides.got,
-        starts: sides.starts,
-        dropped: sides.dropped,
-        report: sides.report,
-        ignored,
+    let diff = differences(alloc, frames.wanted, frames.got, drops, ignored, only)?;
+    let reordered = reordered(alloc, diff.same.as_slice(), frames.wanted, frames.starts)?;
+    Ok(Matches { diff, reordered })
+}
+
+// What is found of frames where none is known of those that were dropped. A thread is handed these slices, and not the frames as one.
+fn matches_alone(
+    alloc: Global,
+    wanted: &[&[u8]],
+    got: &[&[u8]],
+    starts: &[u32],
+    ignored: &[Field],
+    only: &[Range],
+) -> Result<Matches, AllocError>
+    ensures { IfOk result (AreMatches ignored.now only.now wanted.now got.now starts.now []) }
+{
+    let frames = Frames {
+        wanted,
+        got,
+        starts,
     };
-    let text = text_of(alloc, &found, manner)?;
+    matches_of(alloc, &frames, &[], ignored, only)
+}
+
+// The packets of a run that were dropped: their frames as far as they are known, and their numbers in the run.
+#[derive(Clone, Copy)]
+struct Drops<'a> {
+    frames: &'a [&'a [u8]],
+    numbers: &'a [u32],
+}
+
+// What is due for what is found of frames and of those that were dropped.
+fn due_of(
+    alloc: Global,
+    ask: &Ask<'_>,
+    frames: &Frames<'_>,
+    drops: &Drops<'_>,
+    matches: &Matches,
+    report: &Report,
+) -> Result<Due, AllocError>
+    requires { AreMatches ask.now.ignored.items ask.now.only.items frames.now.wanted.now frames.now.got.now frames.now.starts.now (seen drops.now.frames.now) matches.now }
+    ensures { IfOk result (λ due. IsAnswer (terms_of ask.now)
+        (record { wanted = seen frames.now.wanted.now; got = seen frames.now.got.now; dropped = seen drops.now.frames.now }) due.status due.text.items) }
+{
+    let sent = numbers_of(alloc, report, true)?;
+    let diff = &matches.diff;
+    let wanted_noise = wanted_left_out(diff, frames.wanted.len());
+    let got_noise = got_left_out(diff, frames.got.len());
+    let found = Findings {
+        diff,
+        reordered: matches.reordered,
+        noise: (wanted_noise, got_noise),
+        wanted: frames.wanted,
+        sent: sent.as_slice(),
+        got: frames.got,
+        starts: frames.starts,
+        dropped: drops.numbers,
+        report,
+        ignored: ask.ignored.as_slice(),
+    };
+    let text = text_of(alloc, &found, ask.manner)?;
     Ok(Due {
-        status: status_of(&diff),
+        status: status_of(diff),
         text,
     })
 }
 
-// What is due where the files hold this.
-fn compared(
+// What is due for frames of what was loaded, where the run's capture is not among it: one thread compares the frames while the other reads
+// the report.
+fn due_beside<'a, R: Threads>(
+    rt: &R,
     alloc: Global,
+    ask: &Ask<'a>,
     input: &Input,
-    ignored: &[Field],
-    only: &[Range],
-    manner: Manner,
-) -> Result<Due, AllocError>
-    ensures { IfOk result (λ due. (dropped : List (List ℕ))
-        × IsAnswer (record { ignored = ignored.now; only = only.now; manner = manner }) (compared_in input.now dropped) due.status due.text.items) }
+    frames: &Frames<'_>,
+) -> Result<Due, Stop<'a>>
+    requires wanted { seen frames.now.wanted.now ≡ packet_bytes input.now.tx.packets }
+    requires got { seen frames.now.got.now ≡ all_bytes input.now.others.items }
+    ensures { IfOk result (AnswersIn (terms_of ask.now) input.now) }
 {
-    let wanted = frames_in(alloc, &input.tx)?;
-    let got = frames_of(alloc, input.others.as_slice())?;
-    let starts = starts_of(alloc, input.others.as_slice())?;
-    let sent = numbers_of(alloc, &input.report, true)?;
-    let dropped = numbers_of(alloc, &input.report, false)?;
-    let drops = frames_at(alloc, &input.capture, dropped.as_slice())?;
-    due_of(
+    let (wanted, got, starts) = (frames.wanted, frames.got, frames.starts);
+    let ignored = ask.ignored.as_slice();
+    let only = ask.only.as_slice();
+    let (matches, report) = join(
+        rt,
+        ||
+            ensures { IfOk result (AreMatches ignored.entry.now only.entry.now wanted.entry.now got.entry.now starts.entry.now []) }
+        { matches_alone(alloc, wanted, got, starts, ignored, only) },
+        ||
+            ensures { IfOk result (λ report. report_of input.entry.now.text ≡ Ok report) }
+        { report_in(alloc, input) },
+    );
+    let report = match report {
+        Ok(report) => report,
+        Err(stop) => return Err(stop),
+    };
+    let Ok(matches) = matches else {
+        return Err(Stop::Memory);
+    };
+    let drops = Drops {
+        frames: &[],
+        numbers: &[],
+    };
+    match due_of(alloc, ask, frames, &drops, &matches, &report) {
+        Ok(due) => Ok(due),
+        Err(_) => Err(Stop::Memory),
+    }
+}
+
+// What is due for frames and for what the report says was dropped, with the run's capture.
+fn due_with(
+    alloc: Global,
+    ask: &Ask<'_>,
+    frames: &Frames<'_>,
+    report: &Report,
+    capture: &Capture,
+) -> Result<Due, AllocError>
+    ensures { IfOk result (λ due. (dropped : List (List ℕ)) × IsAnswer (terms_of ask.now)
+        (record { wanted = seen frames.now.wanted.now; got = seen frames.now.got.now; dropped = dropped }) due.status due.text.items) }
+{
+    let numbers = numbers_of(alloc, report, false)?;
+    let known = frames_at(alloc, capture, numbers.as_slice())?;
+    let drops = Drops {
+        frames: known.as_slice(),
+        numbers: numbers.as_slice(),
+    };
+    let matches = matches_of(
         alloc,
-        &Sides {
-            wanted: wanted.as_slice(),
-            sent: sent.as_slice(),
-            got: got.as_slice(),
-            starts: starts.as_slice(),
-            drops: drops.as_slice(),
-            dropped: dropped.as_slice(),
-            report: &input.report,
-        },
-        ignored,
-        only,
-        manner,
-    )
+        frames,
+        drops.frames,
+        ask.ignored.as_slice(),
+        ask.only.as_slice(),
+    )?;
+    due_of(alloc, ask, frames, &drops, &matches, report)
+}
+
+// What is due for frames of what was loaded, with the run's capture among it: the report says which of its packets were dropped, and is
+// read first.
+fn due_behind<'a>(
+    alloc: Global,
+    ask: &Ask<'a>,
+    input: &Input,
+    frames: &Frames<'_>,
+    capture: &Capture,
+) -> Result<Due, Stop<'a>>
+    requires wanted { seen frames.now.wanted.now ≡ packet_bytes input.now.tx.packets }
+    requires got { seen frames.now.got.now ≡ all_bytes input.now.others.items }
+    ensures { IfOk result (AnswersIn (terms_of ask.now) input.now) }
+{
+    let report = match report_in(alloc, input) {
+        Ok(report) => report,
+        Err(stop) => return Err(stop),
+    };
+    match due_with(alloc, ask, frames, &report, capture) {
+        Ok(due) => Ok(due),
+        Err(_) => Err(Stop::Memory),
+    }
+}
+
+// What is due for what was loaded.
+fn compared<'a, R: Threads>(
+    rt: &R,
+    alloc: Global,
+    ask: &Ask<'a>,
+    input: &Input,
+) -> Result<Due, Stop<'a>>
+    ensures { IfOk result (AnswersIn (terms_of ask.now) input.now) }
+{
+    let Ok(wanted) = frames_in(alloc, &input.tx) else {
+        return Err(Stop::Memory);
+    };
+    let Ok(got) = frames_of(alloc, input.others.as_slice()) else {
+        return Err(Stop::Memory);
+    };
+    let Ok(starts) = starts_of(alloc, input.others.as_slice()) else {
+        return Err(Stop::Memory);
+    };
+    let frames = Frames {
+        wanted: wanted.as_slice(),
+        got: got.as_slice(),
+        starts: starts.as_slice(),
+    };
+    match &input.capture {
+        Some(capture) => due_behind(alloc, ask, input, &frames, capture),
+        None => due_beside(rt, alloc, ask, input, &frames),
+    }
 }
 
 /// What is due for what is asked, over the files of a folder.
-pub fn answer<'a, F: Folder>(alloc: Global, ask: &Ask<'a>, folder: &mut F) -> Result<Due, Stop<'a>>
+pub fn answer<'a, F: Folder, R: Threads>(
+    rt: &R,
+    alloc: Global,
+    ask: &Ask<'a>,
+    folder: &mut F,
+) -> Result<Due, Stop<'a>>
     ensures answer { IfOk result (λ due. Answers (F.contents folder.old) ask.now due) }
     ensures same { F.contents folder.new ≡ F.contents folder.old }
 {
@@ -144,16 +286,7 @@ pub fn answer<'a, F: Folder>(alloc: Global, ask: &Ask<'a>, folder: &mut F) -> Re
         Ok(input) => input,
         Err(stop) => return Err(stop),
     };
-    match compared(
-        alloc,
-        &input,
-        ask.ignored.as_slice(),
-        ask.only.as_slice(),
-        ask.manner,
-    ) {
-        Ok(due) => Ok(due),
-        Err(_) => Err(Stop::Memory),
-    }
+    compared(rt, alloc, ask, &input)
 }
 
 // What is due where the kernel's router of a script is asked for.
@@ -172,7 +305,8 @@ fn router<'a, F: Folder>(alloc: Global, script: &'a str, folder: &mut F) -> Resu
 }
 
 // What is due for the words, over the files of a folder.
-fn found<'a, F: Folder>(
+fn found<'a, F: Folder, R: Threads>(
+    rt: &R,
     alloc: Global,
     words: &'a [&'a str],
     folder: &mut F,
@@ -184,7 +318,7 @@ fn found<'a, F: Folder>(
         return router(alloc, script, folder);
     }
     match asked(alloc, words) {
-        Ok(ask) => answer(alloc, &ask, folder),
+        Ok(ask) => answer(rt, alloc, &ask, folder),
         Err(WordsError::Memory) => Err(Stop::Memory),
         Err(WordsError::Faulty) => Err(Stop::Refused(Refusal::Usage)),
     }
@@ -213,7 +347,8 @@ fn due_for(alloc: Global, found: Result<Due, Stop<'_>>) -> Option<Due>
 /// 0: all packets match, up to what is ignored, and how they do was printed; or the commands for the kernel's router were. 9: they don't, and how they differ was printed. 1: memory ran
 /// out, and nothing was printed. 2 to 5: nothing is compared, and one line is printed that says why. 7: the sink failed in the middle of what
 /// was to be printed.
-pub fn diff_run<F: Folder, O: Sink>(
+pub fn diff_run<F: Folder, O: Sink, R: Threads>(
+    rt: &R,
     alloc: Global,
     words: &[&str],
     folder: &mut F,
@@ -231,7 +366,7 @@ pub fn diff_run<F: Folder, O: Sink>(
     // No file changes.
     ensures same { F.contents folder.new ≡ F.contents folder.old }
 {
-    let Some(due) = due_for(alloc, found(alloc, words, folder)) else {
+    let Some(due) = due_for(alloc, found(rt, alloc, words, folder)) else {
         return 1;
     };
     match print(out, due.text.as_slice()) {

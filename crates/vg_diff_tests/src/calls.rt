@@ -1,5 +1,6 @@
 //! Calls of the comparison over folders in memory. Frames and savefiles are written out by hand.
 use std::process::Abort;
+use std::thread::Threads;
 use vg_diff::diff_run;
 use vg_outside::{SureFolder, SureSink};
 
@@ -131,7 +132,7 @@ fn padded<R: Abort + AllocGlobal>(rt: &R, frame: &[u8]) -> Vec<u8> {
 }
 
 /// The status and the printed text, where these frames had to come and those did, in one savefile.
-fn compare_with<R: Abort + AllocGlobal>(
+fn compare_with<R: Abort + AllocGlobal + Threads>(
     rt: &R,
     options: &[&str],
     wanted: &[&[u8]],
@@ -154,12 +155,16 @@ fn compare_with<R: Abort + AllocGlobal>(
         .extend_from_slice(&["t", "r", "o"])
         .expect(rt, "memory");
     let mut out = SureSink::new(alloc);
-    let status = diff_run(alloc, words.as_slice(), &mut folder, &mut out);
+    let status = diff_run(rt, alloc, words.as_slice(), &mut folder, &mut out);
     (status, out.written().to_vec(alloc).expect(rt, "memory"))
 }
 
 /// The same where FIRST and SECOND had to come.
-fn compare<R: Abort + AllocGlobal>(rt: &R, options: &[&str], frames: &[&[u8]]) -> (u8, Vec<u8>) {
+fn compare<R: Abort + AllocGlobal + Threads>(
+    rt: &R,
+    options: &[&str],
+    frames: &[&[u8]],
+) -> (u8, Vec<u8>) {
     compare_with(rt, options, &[&FIRST, &SECOND], frames)
 }
 
@@ -321,7 +326,7 @@ fn refusals_have_their_status_and_their_line(rt: HostRuntime) {
         (["t", "r", "t"], 5, "report packets\n"),
     ] {
         let mut out = SureSink::new(alloc);
-        let found = diff_run(alloc, words.as_slice(), &mut folder, &mut out);
+        let found = diff_run(&rt, alloc, words.as_slice(), &mut folder, &mut out);
         assert_eq!(rt; found, status, "{line}");
         assert!(rt; out.written() == line.as_bytes(), "{line}");
     }
@@ -362,7 +367,7 @@ fn the_kernels_router_is_set_up_by_commands(rt: HostRuntime) {
     let mut folder = SureFolder::new(alloc);
     folder.add("s", SCRIPT).expect(&rt, "memory");
     let mut out = SureSink::new(alloc);
-    let status = diff_run(alloc, &["--linux", "s"], &mut folder, &mut out);
+    let status = diff_run(&rt, alloc, &["--linux", "s"], &mut folder, &mut out);
     assert_eq!(rt; status, 0);
     assert!(rt; out.written() == COMMANDS);
 }

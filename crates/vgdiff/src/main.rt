@@ -34,7 +34,7 @@ fn main(rt: HostRuntime) -> ExitCode {
     };
     let mut folder = RealFolder::new(rt);
     let mut out = RealSink::new(rt);
-    let status = diff_run(alloc, words.as_slice(), &mut folder, &mut out);
+    let status = diff_run(&rt, alloc, words.as_slice(), &mut folder, &mut out);
     if status != 0 {
         // An explanation that can't be written changes nothing.
         let _ = explain_diff(&rt, words.as_slice(), status);
