@@ -1,5 +1,6 @@
 //! What is remarked of a run: each remark on both sides of its condition.
 ghost use Rattle.std.specs.Prelude.{◌≤◌};
+
 use std::alloc::Global;
 use std::process::Abort;
 use vg_capture::{Capture, Captured, Packets};
@@ -101,13 +102,17 @@ const NARROW: &[u8] =
 #[test]
 fn addresses_have_their_classes(rt: HostRuntime) {
     let alloc = rt.alloc();
-    assert!(rt; class_of(&rt, alloc, ROUTES, address(255, 255, 255, 255)) == Some(Class::LimitedBroadcast));
+    assert!(rt;
+        class_of(&rt, alloc, ROUTES, address(255, 255, 255, 255)) == Some(Class::LimitedBroadcast)
+    );
     assert!(rt; class_of(&rt, alloc, ROUTES, address(0, 0, 0, 1)) == Some(Class::ThisNetwork));
     assert!(rt; class_of(&rt, alloc, ROUTES, address(127, 0, 0, 1)) == Some(Class::Loopback));
     assert!(rt; class_of(&rt, alloc, ROUTES, address(240, 0, 0, 1)) == Some(Class::Reserved));
     assert!(rt; class_of(&rt, alloc, ROUTES, address(224, 0, 0, 1)) == Some(Class::Multicast));
     assert!(rt; class_of(&rt, alloc, ROUTES, address(239, 1, 2, 3)).is_none());
-    assert!(rt; class_of(&rt, alloc, ROUTES, address(10, 0, 0, 255)) == Some(Class::DirectedBroadcast));
+    assert!(rt;
+        class_of(&rt, alloc, ROUTES, address(10, 0, 0, 255)) == Some(Class::DirectedBroadcast)
+    );
     assert!(rt; class_of(&rt, alloc, ROUTES, address(10, 0, 0, 254)).is_none());
     assert!(rt; class_of(&rt, alloc, ROUTES, address(10, 1, 255, 255)).is_none());
     assert!(rt; class_of(&rt, alloc, ROUTES, address(10, 2, 0, 1)).is_none());
@@ -126,7 +131,9 @@ fn addresses_that_no_route_leads_are_not_remarked_on(rt: HostRuntime) {
     assert!(rt; class_of(&rt, alloc, NARROW, address(127, 1, 0, 1)).is_none());
     assert!(rt; class_of(&rt, alloc, NARROW, address(224, 0, 0, 1)) == Some(Class::Multicast));
     assert!(rt; class_of(&rt, alloc, NARROW, address(239, 1, 2, 3)).is_none());
-    assert!(rt; class_of(&rt, alloc, NARROW, address(255, 255, 255, 255)) == Some(Class::LimitedBroadcast));
+    assert!(rt;
+        class_of(&rt, alloc, NARROW, address(255, 255, 255, 255)) == Some(Class::LimitedBroadcast)
+    );
     assert!(rt; class_of(&rt, alloc, NARROW, address(127, 0, 255, 255)) == Some(Class::Loopback));
 }
 
@@ -144,7 +151,13 @@ fn only_transmitted_packets_are_remarked_on(rt: HostRuntime) {
     assert!(rt; found.unforwarded.count == 1 && found.unforwarded.first == Some(wanted));
     let found = remarked(&rt, alloc, ROUTES, [lost, lost], BOTH, true);
     assert!(rt; found.unforwarded.count == 2);
-    assert!(rt; found.unforwarded.first == Some(Unforwarded { number: 0, ..wanted }));
+    assert!(rt;
+        found.unforwarded.first
+            == Some(Unforwarded {
+                number: 0,
+                ..wanted
+            })
+    );
 }
 
 #[test]

@@ -10,7 +10,8 @@ const BROADCAST: Frame<'static> = (
 );
 
 /// A router's script, with a filter and an event that do nothing.
-const SCRIPT: &[u8] = b"adjacency east interface pg0 dst 02:00:00:00:00:09\nroute 0.0.0.0/0 via east\n\
+const SCRIPT: &[u8] =
+    b"adjacency east interface pg0 dst 02:00:00:00:00:09\nroute 0.0.0.0/0 via east\n\
     interface two mac 02:fe:00:00:00:02 mtu 1500 up filter\nat 10\nend\n";
 
 #[test]

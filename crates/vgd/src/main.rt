@@ -47,10 +47,12 @@ fn main(rt: HostRuntime) -> ExitCode {
     // What can't be said to people changes nothing.
     let _ = if done.status == 0 {
         match &done.ran {
-            Some(RunEnd {
-                remarks: Some(remarks),
-                ..
-            }) => tell(&rt, remarks),
+            Some(
+                RunEnd {
+                    remarks: Some(remarks),
+                    ..
+                },
+            ) => tell(&rt, remarks),
             _ => Ok(()),
         }
     } else if are_utf8 {
