@@ -89,7 +89,8 @@ fn matches_of(
     Ok(Matches { diff, reordered })
 }
 
-// What is found of frames where none is known of those that were dropped. A thread is handed these slices, and not the frames as one.
+// What is found of frames where none is known of those that were dropped. They are handed over as slices: of a closure that holds them as
+// one, its caller knows nothing.
 fn matches_alone(
     alloc: Global,
     wanted: &[&[u8]],

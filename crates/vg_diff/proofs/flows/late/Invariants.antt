@@ -1,3 +1,4 @@
+-- `late`, how many turns are late: the loop over those behind the first.
 use Rattle.std.proofs.Common.{◌≡◌, ◌+◌, ◌≤◌, map, drop}
 use Rattle.vg_diff.specs.Orders.{coming_with, late_behind}
 use Rattle.vg_diff.proofs.flows.late.Given as goal

@@ -1,3 +1,4 @@
+-- `reordered_by_flows`, how many pairs came in another order, by the flows themselves.
 use Rattle.std.proofs.Common.{map, subst, ap, ◌∙◌}
 use Rattle.std.specs.List.Sorted.{IsPermutation}
 use Rattle.std.proofs.lemmas.List.Sorted.{IsPermutation-map}

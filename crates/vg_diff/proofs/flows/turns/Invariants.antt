@@ -1,3 +1,4 @@
+-- `turns`, the packets of pairs with their flows: the loop over the pairs.
 use Rattle.std.proofs.Common.{◌≡◌, map, take}
 use Rattle.vg_diff.specs.Orders.{coming_with, coming_of}
 use Rattle.vg_diff.proofs.flows.turns.Given as goal

@@ -1,3 +1,4 @@
+-- `late_behind`, how many turns are late behind one: the loop over the others, of which each is told from the one before it.
 use Rattle.std.proofs.Common.{◌≡◌, ◌+◌, ◌≤◌, map, drop}
 use Rattle.vg_diff.specs.Orders.{coming, late_behind, IsHashed, AreToldBehind}
 use Rattle.vg_diff.proofs.orders.late_behind.Given as goal

@@ -1,3 +1,4 @@
+-- `reordered`, how many pairs came in another order: where hashes tell all flows apart, the order by hashes is that by flows.
 use Rattle.std.proofs.Common.{map, subst, sym, ap, ◌∙◌, All}
 use Rattle.std.specs.List.Sorted.{IsPermutation}
 use Rattle.std.proofs.lemmas.List.Sorted.{IsPermutation-map, All-permutation}

@@ -1,3 +1,4 @@
+-- `turns`, the packets of pairs: the loop over the pairs.
 use Rattle.std.proofs.Common.{◌≡◌, map, take, All}
 use Rattle.vg_diff.specs.Orders.{coming, coming_of, IsHashed}
 use Rattle.vg_diff.proofs.orders.turns.Given as goal

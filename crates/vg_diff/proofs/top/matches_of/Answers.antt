@@ -1,3 +1,4 @@
+-- `matches_of`, what is found of frames: the order is that of the pairs that are the same.
 use Rattle.std.proofs.Common.{subst}
 use Rattle.vg_diff.specs.Orders.{AreReordered}
 use Rattle.vg_diff.proofs.top.matches_of.Goals as goal
