@@ -1,6 +1,6 @@
+use crate::checks::{has_length, holds, same};
 use std::alloc::Global;
 use std::process::Abort;
-use std::test::Fail;
 use vg_capture::{
     Capture, CaptureError, Captured, Packets, Savefile, Sent, read_capture, write_capture,
 };
@@ -21,16 +21,16 @@ const BIG_ENDIAN: [u8; 43] = [
 /// The header with this byte at this place.
 fn header_with(rt: &impl Abort, place: usize, byte: u8) -> [u8; 24] {
     let mut header = HEADER;
-    assert!(rt; place < 24);
+    holds(rt, place < 24);
     header[place] = byte;
     header
 }
 
 /// The header, and zero bytes behind it up to a length.
-fn zeros_up_to(alloc: Global, len: usize) -> Result<Vec<u8>, Fail> {
-    let mut file = HEADER.to_vec(alloc)?;
-    file.resize(len, 0)?;
-    Ok(file)
+fn zeros_up_to(rt: &impl Abort, alloc: Global, len: usize) -> Vec<u8> {
+    let mut file = HEADER.to_vec(alloc).expect(rt, "memory");
+    file.resize(len, 0).expect(rt, "memory");
+    file
 }
 
 /// The capture of a file.
@@ -48,61 +48,61 @@ fn written(
     capture: &Capture,
     number: u32,
     bytes: &[u8],
-) -> Result<Vec<u8>, Fail> {
-    assert!(rt; (number as usize) < capture.packets.len());
-    assert!(rt; bytes.len() < 100);
+) -> Vec<u8> {
+    holds(rt, (number as usize) < capture.packets.len());
+    holds(rt, bytes.len() < 100);
     let sent = [Sent {
         number,
-        bytes: Bytes::from_vec(bytes.to_vec(alloc)?),
+        bytes: Bytes::from_vec(bytes.to_vec(alloc).expect(rt, "memory")),
     }];
-    Ok(write_capture(alloc, capture, &sent)?.into_vec())
+    write_capture(alloc, capture, &sent)
+        .expect(rt, "memory")
+        .into_vec()
 }
 
 #[test]
-fn reads_and_writes_big_endian_nanoseconds(rt: HostRuntime) -> Result<(), Fail> {
-    let capture = read(rt.alloc(), &BIG_ENDIAN)?;
-    assert!(rt; capture.nanos);
-    assert_eq!(rt; capture.snaplen, 65_535);
+fn reads_and_writes_big_endian_nanoseconds(rt: HostRuntime) {
+    let capture = read(rt.alloc(), &BIG_ENDIAN).expect(&rt, "a capture");
+    holds(&rt, capture.nanos);
+    same(&rt, capture.snaplen, 65_535);
     let packets = &capture.packets;
-    assert_eq!(rt; packets.len(), 1);
+    has_length(&rt, packets.len(), 1);
     let marks = packets.marks(0);
-    assert_eq!(rt; marks.seconds, 1);
-    assert_eq!(rt; marks.fraction, 999_999_999);
-    assert_eq!(rt; marks.original, 60);
-    assert_eq!(rt; packets.bytes(0), [7, 8, 9].as_slice());
+    same(&rt, marks.seconds, 1);
+    same(&rt, marks.fraction, 999_999_999);
+    same(&rt, marks.original, 60);
+    same(&rt, packets.bytes(0), [7, 8, 9].as_slice());
 
-    let file = written(&rt, rt.alloc(), &capture, 0, &[5, 6])?;
+    let file = written(&rt, rt.alloc(), &capture, 0, &[5, 6]);
     let expected = [
         0x4d, 0x3c, 0xb2, 0xa1, 2, 0, 4, 0, 0, 0, 0, 0, 0, 0, 0, 0, 0xff, 0xff, 0, 0, 1, 0, 0, 0,
         1, 0, 0, 0, 0xff, 0xc9, 0x9a, 0x3b, 2, 0, 0, 0, 60, 0, 0, 0, 5, 6,
     ];
-    assert_eq!(rt; file.as_slice(), expected.as_slice());
-    Ok(())
+    same(&rt, file.as_slice(), expected.as_slice());
 }
 
 #[test]
-fn an_empty_capture_is_its_header(rt: HostRuntime) -> Result<(), Fail> {
+fn an_empty_capture_is_its_header(rt: HostRuntime) {
     let capture = Capture {
         nanos: false,
         snaplen: 262_144,
-        packets: Packets::of(rt.alloc(), &[])?,
+        packets: Packets::of(rt.alloc(), &[]).expect(&rt, "memory"),
     };
-    let file = write_capture(rt.alloc(), &capture, &[])?;
-    assert_eq!(rt; file.as_slice(), HEADER.as_slice());
+    let file = write_capture(rt.alloc(), &capture, &[]).expect(&rt, "memory");
+    same(&rt, file.as_slice(), HEADER.as_slice());
 
-    let capture = read(rt.alloc(), file.as_slice())?;
-    assert!(rt; !capture.nanos);
-    assert_eq!(rt; capture.snaplen, 262_144);
-    assert_eq!(rt; capture.packets.len(), 0);
-    Ok(())
+    let capture = read(rt.alloc(), file.as_slice()).expect(&rt, "a capture");
+    holds(&rt, !capture.nanos);
+    same(&rt, capture.snaplen, 262_144);
+    has_length(&rt, capture.packets.len(), 0);
 }
 
 #[test]
-fn each_refusal_names_its_place(rt: HostRuntime) -> Result<(), Fail> {
+fn each_refusal_names_its_place(rt: HostRuntime) {
     let no_magic = [0x0a, 0x0d, 0x0d, 0x0a];
     let version_2_3 = header_with(&rt, 6, 3);
     let upper_bit = header_with(&rt, 23, 0x10);
-    let large = zeros_up_to(rt.alloc(), 16_777_217)?;
+    let large = zeros_up_to(&rt, rt.alloc(), 16_777_217);
     let mut long = BIG_ENDIAN;
     long[32] = 0xff;
     long[33] = 0xff;
@@ -120,55 +120,56 @@ fn each_refusal_names_its_place(rt: HostRuntime) -> Result<(), Fail> {
         (&large, CaptureError::TooLarge),
     ];
     for (file, expected) in cases {
-        assert_eq!(rt; read(rt.alloc(), file).err(), Some(expected));
+        same(&rt, read(rt.alloc(), file).err(), Some(expected));
     }
-    Ok(())
 }
 
 #[test]
-fn as_many_packets_as_may_be(rt: HostRuntime) -> Result<(), Fail> {
+fn as_many_packets_as_may_be(rt: HostRuntime) {
     let capture = read_capture(
         rt.alloc(),
-        Bytes::from_vec(zeros_up_to(rt.alloc(), 1_048_600)?),
-    )?;
-    assert_eq!(rt; capture.packets.len(), 65_536);
+        Bytes::from_vec(zeros_up_to(&rt, rt.alloc(), 1_048_600)),
+    )
+    .expect(&rt, "a capture");
+    has_length(&rt, capture.packets.len(), 65_536);
 
-    let mut file = zeros_up_to(rt.alloc(), 1_048_616)?;
+    let mut file = zeros_up_to(&rt, rt.alloc(), 1_048_616);
     let refused = read(rt.alloc(), &file).err();
-    assert_eq!(rt;
+    same(
+        &rt,
         refused,
-        Some(CaptureError::TooManyPackets { offset: 1_048_600 })
+        Some(CaptureError::TooManyPackets { offset: 1_048_600 }),
     );
 
-    assert!(rt; file.len() > 34);
+    holds(&rt, file.len() > 34);
     file[34] = 5;
     let refused = read(rt.alloc(), &file).err();
-    assert_eq!(rt; refused, Some(CaptureError::RecordTooLong { offset: 24 }));
-    Ok(())
+    same(
+        &rt,
+        refused,
+        Some(CaptureError::RecordTooLong { offset: 24 }),
+    );
 }
 
 /// A capture of packets without bytes, by their seconds and fractions.
-fn capture_at(
-    rt: &impl Abort,
-    alloc: Global,
-    nanos: bool,
-    stamps: &[(u32, u32)],
-) -> Result<Capture, Fail> {
+fn capture_at(rt: &impl Abort, alloc: Global, nanos: bool, stamps: &[(u32, u32)]) -> Capture {
     let mut packets = Vec::new(alloc);
     for (seconds, fraction) in stamps {
-        packets.push(Captured {
-            seconds: *seconds,
-            fraction: *fraction,
-            original: 0,
-            bytes: Bytes::from_vec(Vec::new(alloc)),
-        })?;
+        packets
+            .push(Captured {
+                seconds: *seconds,
+                fraction: *fraction,
+                original: 0,
+                bytes: Bytes::from_vec(Vec::new(alloc)),
+            })
+            .expect(rt, "memory");
     }
-    assert!(rt; packets.len() < 100);
-    Ok(Capture {
+    holds(rt, packets.len() < 100);
+    Capture {
         nanos,
         snaplen: 262_144,
-        packets: Packets::of(alloc, packets.as_slice())?,
-    })
+        packets: Packets::of(alloc, packets.as_slice()).expect(rt, "memory"),
+    }
 }
 
 /// Whether the packets have these times.
@@ -186,14 +187,17 @@ fn has_times(capture: &Capture, times: &[u64]) -> bool {
 }
 
 #[test]
-fn times_never_fall(rt: HostRuntime) -> Result<(), Fail> {
-    let empty = capture_at(&rt, rt.alloc(), false, &[])?;
-    assert_eq!(rt; empty.count(), 0);
+fn times_never_fall(rt: HostRuntime) {
+    let empty = capture_at(&rt, rt.alloc(), false, &[]);
+    same(&rt, empty.count(), 0);
 
     // A fraction above a second, a time stamp below the one before, and one below the first.
     let stamps = [(10, 0), (10, 2_500_000), (11, 5), (13, 1), (9, 0)];
-    let capture = capture_at(&rt, rt.alloc(), false, &stamps)?;
-    assert!(rt; has_times(&capture, &[0, 2_500_000, 2_500_000, 3_000_001, 3_000_001]));
+    let capture = capture_at(&rt, rt.alloc(), false, &stamps);
+    holds(
+        &rt,
+        has_times(&capture, &[0, 2_500_000, 2_500_000, 3_000_001, 3_000_001]),
+    );
 
     // In microseconds: 1,999,999, then 4,000,000, 0, and 4,294,967,299,294,967.
     let stamps = [
@@ -202,13 +206,15 @@ fn times_never_fall(rt: HostRuntime) -> Result<(), Fail> {
         (0, 0),
         (4_294_967_295, 4_294_967_295),
     ];
-    let capture = capture_at(&rt, rt.alloc(), true, &stamps)?;
-    assert!(rt; has_times(&capture, &[0, 2_000_001, 2_000_001, 4_294_967_297_294_968]));
-    Ok(())
+    let capture = capture_at(&rt, rt.alloc(), true, &stamps);
+    holds(
+        &rt,
+        has_times(&capture, &[0, 2_000_001, 2_000_001, 4_294_967_297_294_968]),
+    );
 }
 
 #[test]
-fn each_magic_has_its_order_and_unit(rt: HostRuntime) -> Result<(), Fail> {
+fn each_magic_has_its_order_and_unit(rt: HostRuntime) {
     let magics = [
         ([0xd4, 0xc3, 0xb2, 0xa1], false),
         ([0x4d, 0x3c, 0xb2, 0xa1], true),
@@ -216,9 +222,9 @@ fn each_magic_has_its_order_and_unit(rt: HostRuntime) -> Result<(), Fail> {
     for (magic, nanos) in magics {
         let mut file = HEADER;
         file[..4].copy_from_slice(&magic);
-        let capture = read(rt.alloc(), &file)?;
-        assert_eq!(rt; capture.nanos, nanos);
-        assert_eq!(rt; capture.snaplen, 262_144);
+        let capture = read(rt.alloc(), &file).expect(&rt, "a capture");
+        same(&rt, capture.nanos, nanos);
+        same(&rt, capture.snaplen, 262_144);
     }
 
     let magics = [
@@ -228,67 +234,63 @@ fn each_magic_has_its_order_and_unit(rt: HostRuntime) -> Result<(), Fail> {
     for (magic, nanos) in magics {
         let mut file = BIG_ENDIAN;
         file[..4].copy_from_slice(&magic);
-        let capture = read(rt.alloc(), &file)?;
-        assert_eq!(rt; capture.nanos, nanos);
-        assert_eq!(rt; capture.snaplen, 65_535);
+        let capture = read(rt.alloc(), &file).expect(&rt, "a capture");
+        same(&rt, capture.nanos, nanos);
+        same(&rt, capture.snaplen, 65_535);
     }
-    Ok(())
 }
 
 /// A packet of the second 1 with these bytes.
-fn packet(alloc: Global, original: u32, bytes: &[u8]) -> Result<Captured, Fail> {
-    Ok(Captured {
+fn packet(rt: &impl Abort, alloc: Global, original: u32, bytes: &[u8]) -> Captured {
+    Captured {
         seconds: 1,
         fraction: 0,
         original,
-        bytes: Bytes::from_vec(bytes.to_vec(alloc)?),
-    })
+        bytes: Bytes::from_vec(bytes.to_vec(alloc).expect(rt, "memory")),
+    }
 }
 
 #[test]
-fn a_stretch_is_packets_one_behind_the_other(rt: HostRuntime) -> Result<(), Fail> {
+fn a_stretch_is_packets_one_behind_the_other(rt: HostRuntime) {
     let alloc = rt.alloc();
     let made = [
-        packet(alloc, 60, &[1, 2, 3])?,
-        packet(alloc, 61, &[])?,
-        packet(alloc, 62, &[4, 5])?,
+        packet(&rt, alloc, 60, &[1, 2, 3]),
+        packet(&rt, alloc, 61, &[]),
+        packet(&rt, alloc, 62, &[4, 5]),
     ];
-    let packets = Packets::of(alloc, &made)?;
-    assert_eq!(rt; packets.len(), 3);
-    assert_eq!(rt; packets.marks(2).original, 62);
+    let packets = Packets::of(alloc, &made).expect(&rt, "memory");
+    has_length(&rt, packets.len(), 3);
+    same(&rt, packets.marks(2).original, 62);
 
     let stretch = packets.stretch(1, 2);
-    assert_eq!(rt; stretch.len(), 2);
-    assert_eq!(rt; stretch.bytes(0).len(), 0);
-    assert_eq!(rt; stretch.bytes(1), [4, 5].as_slice());
-    Ok(())
+    has_length(&rt, stretch.len(), 2);
+    has_length(&rt, stretch.bytes(0).len(), 0);
+    same(&rt, stretch.bytes(1), [4, 5].as_slice());
 }
 
 #[test]
-fn a_savefile_is_put_together_record_by_record(rt: HostRuntime) -> Result<(), Fail> {
+fn a_savefile_is_put_together_record_by_record(rt: HostRuntime) {
     let alloc = rt.alloc();
-    let capture = read(alloc, &BIG_ENDIAN)?;
-    assert_eq!(rt; capture.packets.len(), 1);
-    let mut file = Savefile::begin(alloc, &capture, Savefile::room(2, 1))?;
-    file.put(&capture, 0, &[5])?;
-    file.put(&capture, 0, &[])?;
+    let capture = read(alloc, &BIG_ENDIAN).expect(&rt, "a capture");
+    has_length(&rt, capture.packets.len(), 1);
+    let mut file = Savefile::begin(alloc, &capture, Savefile::room(2, 1)).expect(&rt, "memory");
+    file.put(&capture, 0, &[5]).expect(&rt, "memory");
+    file.put(&capture, 0, &[]).expect(&rt, "memory");
     let expected = [
         0x4d, 0x3c, 0xb2, 0xa1, 2, 0, 4, 0, 0, 0, 0, 0, 0, 0, 0, 0, 0xff, 0xff, 0, 0, 1, 0, 0, 0,
         1, 0, 0, 0, 0xff, 0xc9, 0x9a, 0x3b, 1, 0, 0, 0, 60, 0, 0, 0, 5, 1, 0, 0, 0, 0xff, 0xc9,
         0x9a, 0x3b, 0, 0, 0, 0, 60, 0, 0, 0,
     ];
-    assert_eq!(rt; file.end().as_slice(), expected.as_slice());
-    assert_eq!(rt; Savefile::room(2, 1), 57);
-    Ok(())
+    same(&rt, file.end().as_slice(), expected.as_slice());
+    same(&rt, Savefile::room(2, 1), 57);
 }
 
 #[test]
-fn a_refusal_is_told_in_words(rt: HostRuntime) -> Result<(), Fail> {
+fn a_refusal_is_told_in_words(rt: HostRuntime) {
     let version = CaptureError::Version { major: 2, minor: 3 };
-    let text = format!(in rt.alloc(); "{version}")?;
-    assert_eq!(rt; text.as_str(), "the version is 2.3, and not 2.4");
+    let text = format!(in rt.alloc(); "{version}").expect(&rt, "memory");
+    same(&rt, text.as_str(), "the version is 2.3, and not 2.4");
     let torn = CaptureError::Truncated { offset: 40 };
-    let text = format!(in rt.alloc(); "{torn}")?;
-    assert_eq!(rt; text.as_str(), "what begins at byte 40 is cut off");
-    Ok(())
+    let text = format!(in rt.alloc(); "{torn}").expect(&rt, "memory");
+    same(&rt, text.as_str(), "what begins at byte 40 is cut off");
 }

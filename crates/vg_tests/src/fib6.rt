@@ -2,9 +2,9 @@
 
 ghost use Rattle.std.specs.Prelude.{◌≤◌};
 
-use std::alloc::{AllocError, Global};
+use crate::checks::{has_length, holds, same};
+use std::alloc::Global;
 use std::process::Abort;
-use std::test::Fail;
 use vg_fib::{Fib6, FibError, NoSuchRoute, Spans6};
 use vg_model::limits::MOST_ROUTES;
 use vg_model::{Members, Prefix6, RouteTo};
@@ -50,16 +50,6 @@ fn host(address: u128) -> Prefix6 {
     }
 }
 
-// Whether a table leads an address there.
-fn finds(fib: &Fib6, address: u128, to: Option<RouteTo>) -> bool {
-    fib.find(address) == to
-}
-
-// Whether spans do.
-fn spans_find(spans: &Spans6, address: u128, to: Option<RouteTo>) -> bool {
-    spans.find(address) == to
-}
-
 // The longest match by a plain scan, which counts the bits that an address has in common with each prefix.
 fn scan(routes: &[(Prefix6, RouteTo)], address: u128) -> Option<RouteTo> {
     let mut best: Option<(u8, RouteTo)> = None;
@@ -77,7 +67,7 @@ fn scan(routes: &[(Prefix6, RouteTo)], address: u128) -> Option<RouteTo> {
 }
 
 // The routes of the six prefixes, in the order of this number.
-fn in_order(alloc: Global, number: usize) -> Result<Vec<(Prefix6, RouteTo)>, AllocError> {
+fn in_order(rt: &impl Abort, alloc: Global, number: usize) -> Vec<(Prefix6, RouteTo)> {
     let mut left = vec![in alloc;
         (EVERYWHERE, via(0)),
         (SITE, via(1)),
@@ -85,25 +75,26 @@ fn in_order(alloc: Global, number: usize) -> Result<Vec<(Prefix6, RouteTo)>, All
         (LINK, via(3)),
         (PAIR, RouteTo::Local),
         (HOST, via(5)),
-    ]?;
+    ]
+    .expect(rt, "memory");
     let mut routes = Vec::new(alloc);
     let mut number = number;
     for _ in 0..6 {
         let len = left.len();
         if len > 0 {
-            routes.push(left.remove(number % len))?;
+            routes.push(left.remove(number % len)).expect(rt, "memory");
             number /= len;
         }
     }
-    Ok(routes)
+    routes
 }
 
 // Whether table, spans and scan answer the same.
 fn agree(rt: &impl Abort, fib: &Fib6, spans: &Spans6, address: u128) {
     let plain = scan(fib.routes(), address);
-    assert!(rt; fib.find(address) == plain);
-    assert!(rt; spans.find(address) == plain);
-    assert!(rt; spans.target(address).copied() == plain);
+    holds(rt, fib.find(address) == plain);
+    holds(rt, spans.find(address) == plain);
+    holds(rt, spans.target(address).copied() == plain);
 }
 
 // Whether spans and table answer the same at the first and the last address of a prefix, and beside them.
@@ -130,123 +121,122 @@ fn agree_at_ends(rt: &impl Abort, fib: &Fib6, spans: &Spans6) {
 }
 
 #[test]
-fn the_longest_prefix_wins_in_any_order(rt: HostRuntime) -> Result<(), Fail> {
+fn the_longest_prefix_wins_in_any_order(rt: HostRuntime) {
     let alloc = rt.alloc();
     for number in 0..720 {
-        let routes = in_order(alloc, number)?;
-        let mut fib = Fib6::new(alloc)?;
+        let routes = in_order(&rt, alloc, number);
+        let mut fib = Fib6::new(alloc).expect(&rt, "memory");
         for (prefix, to) in &routes {
-            fib.set(*prefix, *to)?;
+            fib.set(*prefix, *to).expect(&rt, "a route");
         }
-        assert!(rt; fib.routes() == routes.as_slice());
-        let copy = fib.copy()?;
-        assert!(rt; copy.routes() == routes.as_slice());
-        let spans = Spans6::build(alloc, &copy)?;
+        holds(&rt, fib.routes() == routes.as_slice());
+        let copy = fib.copy().expect(&rt, "memory");
+        holds(&rt, copy.routes() == routes.as_slice());
+        let spans = Spans6::build(alloc, &copy).expect(&rt, "memory");
         agree_at_ends(&rt, &fib, &spans);
-        assert!(rt; spans_find(&spans, HOST.addr, Some(via(5))));
-        assert!(rt; spans_find(&spans, HOST.addr + 1, Some(RouteTo::Local)));
-        assert!(rt; spans_find(&spans, HOST.addr + 2, Some(via(3))));
-        assert!(rt; spans_find(&spans, NET.addr, Some(RouteTo::Drop)));
-        assert!(rt; spans_find(&spans, SITE.addr, Some(via(1))));
-        assert!(rt; spans_find(&spans, u128::MAX, Some(via(0))));
+        same(&rt, spans.find(HOST.addr), Some(via(5)));
+        same(&rt, spans.find(HOST.addr + 1), Some(RouteTo::Local));
+        same(&rt, spans.find(HOST.addr + 2), Some(via(3)));
+        same(&rt, spans.find(NET.addr), Some(RouteTo::Drop));
+        same(&rt, spans.find(SITE.addr), Some(via(1)));
+        same(&rt, spans.find(u128::MAX), Some(via(0)));
     }
-    Ok(())
 }
 
 #[test]
-fn prefixes_end_with_the_addresses(rt: HostRuntime) -> Result<(), Fail> {
+fn prefixes_end_with_the_addresses(rt: HostRuntime) {
     let alloc = rt.alloc();
-    let mut fib = Fib6::new(alloc)?;
-    let spans = Spans6::build(alloc, &fib)?;
-    assert!(rt; spans_find(&spans, 0, None));
-    assert!(rt; spans_find(&spans, u128::MAX, None));
-    fib.set(host(u128::MAX), via(1))?;
-    fib.set(host(0), via(2))?;
+    let mut fib = Fib6::new(alloc).expect(&rt, "memory");
+    let spans = Spans6::build(alloc, &fib).expect(&rt, "memory");
+    same(&rt, spans.find(0), None);
+    same(&rt, spans.find(u128::MAX), None);
+    fib.set(host(u128::MAX), via(1)).expect(&rt, "a route");
+    fib.set(host(0), via(2)).expect(&rt, "a route");
     // The upper half of all addresses.
     let half = Prefix6 {
         addr: 1 << 127,
         len: 1,
     };
-    fib.set(half, via(3))?;
-    let spans = spans.renewed(&fib)?;
-    assert!(rt; spans_find(&spans, u128::MAX, Some(via(1))));
-    assert!(rt; spans_find(&spans, u128::MAX - 1, Some(via(3))));
-    assert!(rt; spans_find(&spans, 1 << 127, Some(via(3))));
-    assert!(rt; spans_find(&spans, (1 << 127) - 1, None));
-    assert!(rt; spans_find(&spans, 1, None));
-    assert!(rt; spans_find(&spans, 0, Some(via(2))));
+    fib.set(half, via(3)).expect(&rt, "a route");
+    let spans = spans.renewed(&fib).expect(&rt, "memory");
+    same(&rt, spans.find(u128::MAX), Some(via(1)));
+    same(&rt, spans.find(u128::MAX - 1), Some(via(3)));
+    same(&rt, spans.find(1 << 127), Some(via(3)));
+    same(&rt, spans.find((1 << 127) - 1), None);
+    same(&rt, spans.find(1), None);
+    same(&rt, spans.find(0), Some(via(2)));
     agree_at_ends(&rt, &fib, &spans);
-    fib.set(EVERYWHERE, RouteTo::Drop)?;
-    let spans = spans.renewed(&fib)?;
-    assert!(rt; spans_find(&spans, 1, Some(RouteTo::Drop)));
-    assert!(rt; spans_find(&spans, (1 << 127) - 1, Some(RouteTo::Drop)));
+    fib.set(EVERYWHERE, RouteTo::Drop).expect(&rt, "a route");
+    let spans = spans.renewed(&fib).expect(&rt, "memory");
+    same(&rt, spans.find(1), Some(RouteTo::Drop));
+    same(&rt, spans.find((1 << 127) - 1), Some(RouteTo::Drop));
     agree_at_ends(&rt, &fib, &spans);
-    Ok(())
 }
 
 #[test]
-fn a_prefix_has_one_route_until_it_is_removed(rt: HostRuntime) -> Result<(), Fail> {
-    let mut fib = Fib6::new(rt.alloc())?;
-    assert_eq!(rt; fib.remove(SITE), Err(NoSuchRoute));
-    fib.set(SITE, via(1))?;
-    fib.set(NET, via(2))?;
-    fib.set(SITE, via(3))?;
-    assert!(rt; fib.routes() == [(SITE, via(3)), (NET, via(2))].as_slice());
-    assert!(rt; finds(&fib, LINK.addr, Some(via(2))));
-    assert_eq!(rt; fib.remove(NET), Ok(()));
-    assert_eq!(rt; fib.remove(NET), Err(NoSuchRoute));
-    assert!(rt; finds(&fib, LINK.addr, Some(via(3))));
-    assert_eq!(rt; fib.remove(SITE), Ok(()));
-    assert!(rt; finds(&fib, LINK.addr, None));
-    assert!(rt; fib.routes().is_empty());
-    Ok(())
+fn a_prefix_has_one_route_until_it_is_removed(rt: HostRuntime) {
+    let mut fib = Fib6::new(rt.alloc()).expect(&rt, "memory");
+    same(&rt, fib.remove(SITE), Err(NoSuchRoute));
+    fib.set(SITE, via(1)).expect(&rt, "a route");
+    fib.set(NET, via(2)).expect(&rt, "a route");
+    fib.set(SITE, via(3)).expect(&rt, "a route");
+    holds(
+        &rt,
+        fib.routes() == [(SITE, via(3)), (NET, via(2))].as_slice(),
+    );
+    same(&rt, fib.find(LINK.addr), Some(via(2)));
+    same(&rt, fib.remove(NET), Ok(()));
+    same(&rt, fib.remove(NET), Err(NoSuchRoute));
+    same(&rt, fib.find(LINK.addr), Some(via(3)));
+    same(&rt, fib.remove(SITE), Ok(()));
+    same(&rt, fib.find(LINK.addr), None);
+    holds(&rt, fib.routes().is_empty());
 }
 
 #[test]
-fn a_full_table_takes_known_prefixes_alone(rt: HostRuntime) -> Result<(), Fail> {
-    let mut fib = Fib6::new(rt.alloc())?;
+fn a_full_table_takes_known_prefixes_alone(rt: HostRuntime) {
+    let mut fib = Fib6::new(rt.alloc()).expect(&rt, "memory");
     for number in 0..4096_u32 {
-        fib.set(host(u128::from(number) << 64), RouteTo::Local)?;
+        fib.set(host(u128::from(number) << 64), RouteTo::Local)
+            .expect(&rt, "a route");
     }
-    assert_eq!(rt; fib.routes().len(), MOST_ROUTES);
-    assert_eq!(rt; fib.set(SITE, RouteTo::Local), Err(FibError::TooMany));
-    assert_eq!(rt; fib.routes().len(), MOST_ROUTES);
-    assert!(rt; finds(&fib, SITE.addr, None));
-    fib.set(host(0), RouteTo::Drop)?;
-    assert!(rt; finds(&fib, 0, Some(RouteTo::Drop)));
-    fib.remove(host(0))?;
-    fib.set(SITE, via(7))?;
-    assert!(rt; finds(&fib, LINK.addr, Some(via(7))));
-    Ok(())
+    has_length(&rt, fib.routes().len(), MOST_ROUTES);
+    same(&rt, fib.set(SITE, RouteTo::Local), Err(FibError::TooMany));
+    has_length(&rt, fib.routes().len(), MOST_ROUTES);
+    same(&rt, fib.find(SITE.addr), None);
+    fib.set(host(0), RouteTo::Drop).expect(&rt, "a route");
+    same(&rt, fib.find(0), Some(RouteTo::Drop));
+    fib.remove(host(0)).expect(&rt, "a route");
+    fib.set(SITE, via(7)).expect(&rt, "a route");
+    same(&rt, fib.find(LINK.addr), Some(via(7)));
 }
 
 #[test]
-fn spans_follow_their_table(rt: HostRuntime) -> Result<(), Fail> {
+fn spans_follow_their_table(rt: HostRuntime) {
     let alloc = rt.alloc();
-    let mut fib = Fib6::new(alloc)?;
-    fib.set(HOST, RouteTo::Drop)?;
-    fib.set(LINK, via(1))?;
-    let spans = Spans6::build(alloc, &fib)?;
+    let mut fib = Fib6::new(alloc).expect(&rt, "memory");
+    fib.set(HOST, RouteTo::Drop).expect(&rt, "a route");
+    fib.set(LINK, via(1)).expect(&rt, "a route");
+    let spans = Spans6::build(alloc, &fib).expect(&rt, "memory");
     // A target changes, and prefixes come that lie under and over those that are there.
-    fib.set(LINK, via(5))?;
-    fib.set(NET, via(0))?;
-    fib.set(PAIR, via(2))?;
-    fib.set(EVERYWHERE, RouteTo::Local)?;
-    let spans = spans.renewed(&fib)?;
-    assert!(rt; spans_find(&spans, HOST.addr, Some(RouteTo::Drop)));
-    assert!(rt; spans_find(&spans, HOST.addr + 1, Some(via(2))));
-    assert!(rt; spans_find(&spans, LINK.addr, Some(via(5))));
-    assert!(rt; spans_find(&spans, NET.addr, Some(via(0))));
-    assert!(rt; spans_find(&spans, SITE.addr, Some(RouteTo::Local)));
+    fib.set(LINK, via(5)).expect(&rt, "a route");
+    fib.set(NET, via(0)).expect(&rt, "a route");
+    fib.set(PAIR, via(2)).expect(&rt, "a route");
+    fib.set(EVERYWHERE, RouteTo::Local).expect(&rt, "a route");
+    let spans = spans.renewed(&fib).expect(&rt, "memory");
+    same(&rt, spans.find(HOST.addr), Some(RouteTo::Drop));
+    same(&rt, spans.find(HOST.addr + 1), Some(via(2)));
+    same(&rt, spans.find(LINK.addr), Some(via(5)));
+    same(&rt, spans.find(NET.addr), Some(via(0)));
+    same(&rt, spans.find(SITE.addr), Some(RouteTo::Local));
     agree_at_ends(&rt, &fib, &spans);
     // Prefixes go.
-    fib.remove(HOST)?;
-    fib.remove(EVERYWHERE)?;
-    let spans = spans.renewed(&fib)?;
-    assert!(rt; spans_find(&spans, HOST.addr, Some(via(2))));
-    assert!(rt; spans_find(&spans, SITE.addr, None));
+    fib.remove(HOST).expect(&rt, "a route");
+    fib.remove(EVERYWHERE).expect(&rt, "a route");
+    let spans = spans.renewed(&fib).expect(&rt, "memory");
+    same(&rt, spans.find(HOST.addr), Some(via(2)));
+    same(&rt, spans.find(SITE.addr), None);
     agree_at_ends(&rt, &fib, &spans);
-    Ok(())
 }
 
 // The prefix of so many bits that covers an address.
@@ -264,9 +254,9 @@ fn prefix_of(address: u128, len: u8) -> Prefix6
 }
 
 #[test]
-fn spans_and_table_agree_at_the_ends_of_each_prefix(rt: HostRuntime) -> Result<(), Fail> {
+fn spans_and_table_agree_at_the_ends_of_each_prefix(rt: HostRuntime) {
     let alloc = rt.alloc();
-    let mut fib = Fib6::new(alloc)?;
+    let mut fib = Fib6::new(alloc).expect(&rt, "memory");
     // In each turn the next address of a generator and the next length; every second one lies in 2001:db8::/32.
     let mut low: u64 = 0x0a01_0203;
     for turn in 0..1024_u32 {
@@ -280,11 +270,11 @@ fn spans_and_table_agree_at_the_ends_of_each_prefix(rt: HostRuntime) -> Result<(
         } else {
             SITE.addr | (address >> 32)
         };
-        fib.set(prefix_of(near, (turn % 129) as u8), via(turn as u16))?;
+        fib.set(prefix_of(near, (turn % 129) as u8), via(turn as u16))
+            .expect(&rt, "a route");
     }
-    let spans = Spans6::build(alloc, &fib)?;
+    let spans = Spans6::build(alloc, &fib).expect(&rt, "memory");
     agree_at_ends(&rt, &fib, &spans);
-    Ok(())
 }
 
 // The prefix of so many bits, modulo 129, around the one host.
@@ -293,91 +283,89 @@ fn nested(bits: u32) -> Prefix6 {
 }
 
 // Sets the prefixes of 0 to 128 bits around an address, then removes them in the order of the multiples of this step.
-fn remove_nested(rt: &impl Abort, alloc: Global, step: u32) -> Result<(), Fail> {
-    let mut fib = Fib6::new(alloc)?;
+fn remove_nested(rt: &impl Abort, alloc: Global, step: u32) {
+    let mut fib = Fib6::new(alloc).expect(rt, "memory");
     for bits in 0..129 {
-        fib.set(nested(bits), via(bits as u16))?;
+        fib.set(nested(bits), via(bits as u16))
+            .expect(rt, "a route");
     }
-    let mut spans = Spans6::build(alloc, &fib)?;
+    let mut spans = Spans6::build(alloc, &fib).expect(rt, "memory");
     for turn in 0..129_u32 {
         let prefix = nested(turn.wrapping_mul(step));
-        fib.remove(prefix)?;
-        spans = spans.renewed(&fib)?;
+        fib.remove(prefix).expect(rt, "a route");
+        spans = spans.renewed(&fib).expect(rt, "memory");
         agree_around(rt, &fib, &spans, prefix);
         agree(rt, &fib, &spans, HOST.addr);
     }
-    let anew = Spans6::build(alloc, &fib)?;
-    assert_eq!(rt; spans.find(HOST.addr), anew.find(HOST.addr));
-    Ok(())
+    let anew = Spans6::build(alloc, &fib).expect(rt, "memory");
+    same(rt, spans.find(HOST.addr), anew.find(HOST.addr));
 }
 
 #[test]
-fn nested_prefixes_are_removed_from_the_shortest_on(rt: HostRuntime) -> Result<(), Fail> {
+fn nested_prefixes_are_removed_from_the_shortest_on(rt: HostRuntime) {
     remove_nested(&rt, rt.alloc(), 1)
 }
 
 #[test]
-fn nested_prefixes_are_removed_from_the_longest_on(rt: HostRuntime) -> Result<(), Fail> {
+fn nested_prefixes_are_removed_from_the_longest_on(rt: HostRuntime) {
     remove_nested(&rt, rt.alloc(), 128)
 }
 
 #[test]
-fn nested_prefixes_are_removed_here_and_there(rt: HostRuntime) -> Result<(), Fail> {
+fn nested_prefixes_are_removed_here_and_there(rt: HostRuntime) {
     remove_nested(&rt, rt.alloc(), 50)
 }
 
 // Sets six routes, removes them in this order of their places, one a turn, and sets the first one again.
-fn remove_in_order(rt: &impl Abort, alloc: Global, number: usize) -> Result<(), Fail> {
-    let routes = in_order(alloc, 0)?;
-    let mut fib = Fib6::new(alloc)?;
+fn remove_in_order(rt: &impl Abort, alloc: Global, number: usize) {
+    let routes = in_order(rt, alloc, 0);
+    let mut fib = Fib6::new(alloc).expect(rt, "memory");
     for (prefix, to) in &routes {
-        fib.set(*prefix, *to)?;
+        fib.set(*prefix, *to).expect(rt, "a route");
     }
-    let mut spans = Spans6::build(alloc, &fib)?;
-    for (prefix, _) in &in_order(alloc, number)? {
-        fib.remove(*prefix)?;
-        spans = spans.renewed(&fib)?;
+    let mut spans = Spans6::build(alloc, &fib).expect(rt, "memory");
+    for (prefix, _) in &in_order(rt, alloc, number) {
+        fib.remove(*prefix).expect(rt, "a route");
+        spans = spans.renewed(&fib).expect(rt, "memory");
         for (other, _) in &routes {
             agree_around(rt, &fib, &spans, *other);
         }
     }
-    fib.set(HOST, via(9))?;
-    let spans = spans.renewed(&fib)?;
+    fib.set(HOST, via(9)).expect(rt, "a route");
+    let spans = spans.renewed(&fib).expect(rt, "memory");
     agree_around(rt, &fib, &spans, HOST);
-    Ok(())
 }
 
 #[test]
-fn routes_are_removed_in_any_order(rt: HostRuntime) -> Result<(), Fail> {
+fn routes_are_removed_in_any_order(rt: HostRuntime) {
     let alloc = rt.alloc();
     for number in 0..720 {
-        remove_in_order(&rt, alloc, number)?;
+        remove_in_order(&rt, alloc, number);
     }
-    Ok(())
 }
 
 #[test]
-fn many_routes_are_removed_at_once(rt: HostRuntime) -> Result<(), Fail> {
+fn many_routes_are_removed_at_once(rt: HostRuntime) {
     let alloc = rt.alloc();
-    let mut fib = Fib6::new(alloc)?;
-    fib.set(EVERYWHERE, RouteTo::Local)?;
+    let mut fib = Fib6::new(alloc).expect(&rt, "memory");
+    fib.set(EVERYWHERE, RouteTo::Local).expect(&rt, "a route");
     for address in 0..40_u16 {
-        fib.set(host(u128::from(address)), via(address))?;
+        fib.set(host(u128::from(address)), via(address))
+            .expect(&rt, "a route");
     }
-    let spans = Spans6::build(alloc, &fib)?;
+    let spans = Spans6::build(alloc, &fib).expect(&rt, "memory");
     // 16 are taken out in place; 17 more are too many for that.
     for address in 0..16_u16 {
-        fib.remove(host(u128::from(address)))?;
+        fib.remove(host(u128::from(address))).expect(&rt, "a route");
     }
-    let spans = spans.renewed(&fib)?;
-    assert_eq!(rt; spans.find(15), Some(RouteTo::Local));
+    let spans = spans.renewed(&fib).expect(&rt, "memory");
+    same(&rt, spans.find(15), Some(RouteTo::Local));
     agree_at_ends(&rt, &fib, &spans);
     for address in 16..33_u16 {
-        fib.remove(host(u128::from(address)))?;
+        fib.remove(host(u128::from(address))).expect(&rt, "a route");
     }
-    let spans = spans.renewed(&fib)?;
-    assert_eq!(rt; spans.find(32), Some(RouteTo::Local));
-    assert_eq!(rt; spans.find(33), Some(via(33)));
+    let spans = spans.renewed(&fib).expect(&rt, "memory");
+    same(&rt, spans.find(32), Some(RouteTo::Local));
+    same(&rt, spans.find(33), Some(via(33)));
     agree_at_ends(&rt, &fib, &spans);
-    Ok(())
 }

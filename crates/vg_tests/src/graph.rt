@@ -1,16 +1,17 @@
 //! Tests of the graph: where it starts, its edits, and their refusals.
 
+use crate::checks::{holds, same};
 use std::alloc::Global;
-use std::test::Fail;
+use std::process::Abort;
 use vg_graph::*;
 use vg_model::{Edit, Interface, Kind, Mac, Name, VlanId};
 
-fn started(alloc: Global) -> Result<Graph, Fail> {
-    Ok(Graph::start(alloc).map_err(|_| "no memory")?)
+fn started(rt: &impl Abort, alloc: Global) -> Graph {
+    Graph::start(alloc).expect(rt, "memory")
 }
 
-fn name(text: &str) -> Result<Name, Fail> {
-    Ok(Name::of(text.as_bytes()).ok_or("no name")?)
+fn name(rt: &impl Abort, text: &str) -> Name {
+    Name::of(text.as_bytes()).expect(rt, "a name")
 }
 
 /// The last digit of a number.
@@ -19,9 +20,9 @@ fn digit(i: u16) -> u8 {
 }
 
 /// The name `n` with three digits.
-fn numbered(i: u16) -> Result<Name, Fail> {
+fn numbered(rt: &impl Abort, i: u16) -> Name {
     let bytes = [b'n', digit(i / 100), digit(i / 10), digit(i)];
-    Ok(Name::of(&bytes).ok_or("no name")?)
+    Name::of(&bytes).expect(rt, "a name")
 }
 
 fn add_pass(graph: &mut Graph, name: Name) -> Result<(), GraphError> {
@@ -31,13 +32,9 @@ fn add_pass(graph: &mut Graph, name: Name) -> Result<(), GraphError> {
     })
 }
 
-fn add_node(graph: &mut Graph, text: &str, kind: Kind) -> Result<(), Fail> {
-    let name = name(text)?;
-    Ok(
-        graph
-            .apply(&Edit::Node { name, kind })
-            .map_err(|_| "a node")?,
-    )
+fn add_node(rt: &impl Abort, graph: &mut Graph, text: &str, kind: Kind) {
+    let name = name(rt, text);
+    graph.apply(&Edit::Node { name, kind }).expect(rt, "a node");
 }
 
 fn set_interface(graph: &mut Graph, name: Name, mtu: u16) -> Result<(), GraphError> {
@@ -52,32 +49,34 @@ fn set_interface(graph: &mut Graph, name: Name, mtu: u16) -> Result<(), GraphErr
 
 /// What a graph answers to the edit of an adjacency.
 fn set_adjacency(
+    rt: &impl Abort,
     graph: &mut Graph,
     i: u16,
     interface: &str,
     last: u8,
-) -> Result<Result<(), GraphError>, Fail> {
+) -> Result<(), GraphError> {
     let edit = Edit::Adjacency {
-        name: numbered(i)?,
-        interface: name(interface)?,
+        name: numbered(rt, i),
+        interface: name(rt, interface),
         mac: Mac([2, 0, 0, 0, 0, last]),
     };
-    Ok(graph.apply(&edit))
+    graph.apply(&edit)
 }
 
 /// What a graph answers to the edit of an arc.
 fn set_arc(
+    rt: &impl Abort,
     graph: &mut Graph,
     from: &str,
     slot: &str,
     to: &str,
-) -> Result<Result<(), GraphError>, Fail> {
+) -> Result<(), GraphError> {
     let edit = Edit::Arc {
-        from: name(from)?,
-        slot: name(slot)?,
-        to: name(to)?,
+        from: name(rt, from),
+        slot: name(rt, slot),
+        to: name(rt, to),
     };
-    Ok(graph.apply(&edit))
+    graph.apply(&edit)
 }
 
 /// The node that the first slot of a node leads to.
@@ -116,8 +115,8 @@ fn is_adjacency(graph: &Graph, n: u16, name: &Name, interface: u16, last: u8) ->
 }
 
 #[test]
-fn the_start_graph_is_a_row_of_nine_nodes(rt: HostRuntime) -> Result<(), Fail> {
-    let graph = started(rt.alloc())?;
+fn the_start_graph_is_a_row_of_nine_nodes(rt: HostRuntime) {
+    let graph = started(&rt, rt.alloc());
     let rows = [
         (0, "pg-input", Kind::PgInput, Some(2)),
         (1, "handoff-dequeue", Kind::HandoffDequeue, None),
@@ -130,18 +129,21 @@ fn the_start_graph_is_a_row_of_nine_nodes(rt: HostRuntime) -> Result<(), Fail> {
         (8, "error-drop", Kind::ErrorDrop, None),
     ];
     for (n, text, kind, next) in rows {
-        let name = name(text)?;
-        assert!(rt; is_node(&graph, n, &name, kind), "{text}");
-        assert_eq!(rt; graph.node(&name), Some(n));
-        assert_eq!(rt; next_of(&graph, &name), next, "{text}");
+        let name = name(&rt, text);
+        same(&rt, (text, is_node(&graph, n, &name, kind)), (text, true));
+        same(&rt, graph.node(&name), Some(n));
+        same(&rt, (text, next_of(&graph, &name)), (text, next));
     }
-    assert_eq!(rt;
+    same(
+        &rt,
         (graph.nodes(), graph.interfaces(), graph.adjacencies()),
-        (9, 1, 0)
+        (9, 1, 0),
     );
     let mac = Mac([0x02, 0xfe, 0, 0, 0, 0]);
-    assert!(rt; is_interface(&graph, 0, &name("pg0")?, mac, 9000, false));
-    Ok(())
+    holds(
+        &rt,
+        is_interface(&graph, 0, &name(&rt, "pg0"), mac, 9000, false),
+    );
 }
 
 /// What the edits of arcs answer, in their order, after the nodes `a`, `b` and `c` were added.
@@ -175,124 +177,153 @@ const ARCS: [(&str, &str, &str, Result<(), GraphError>); 17] = [
 ];
 
 #[test]
-fn arcs_are_set_and_refused(rt: HostRuntime) -> Result<(), Fail> {
-    let mut graph = started(rt.alloc())?;
+fn arcs_are_set_and_refused(rt: HostRuntime) {
+    let mut graph = started(&rt, rt.alloc());
     for text in ["a", "b", "c"] {
-        assert_eq!(rt; add_pass(&mut graph, name(text)?), Ok(()));
-        assert_eq!(rt; next_of(&graph, &name(text)?), Some(8));
+        same(&rt, add_pass(&mut graph, name(&rt, text)), Ok(()));
+        same(&rt, next_of(&graph, &name(&rt, text)), Some(8));
     }
     for (from, slot, to, answer) in ARCS {
-        assert_eq!(rt;
-            set_arc(&mut graph, from, slot, to)?,
-            answer,
-            "{from} {slot} {to}"
+        let is = set_arc(&rt, &mut graph, from, slot, to);
+        same(&rt, (from, slot, to, is), (from, slot, to, answer));
+    }
+    let copy = graph.copy(rt.alloc()).expect(&rt, "memory");
+    same(
+        &rt,
+        set_arc(&rt, &mut graph, "a", "out", "error-drop"),
+        Ok(()),
+    );
+    for (text, next) in [("pg-input", 9), ("a", 2), ("b", 11), ("c", 9)] {
+        same(
+            &rt,
+            (text, next_of(&copy, &name(&rt, text))),
+            (text, Some(next)),
         );
     }
-    let copy = graph.copy(rt.alloc()).map_err(|_| "no memory")?;
-    assert_eq!(rt; set_arc(&mut graph, "a", "out", "error-drop")?, Ok(()));
-    for (text, next) in [("pg-input", 9), ("a", 2), ("b", 11), ("c", 9)] {
-        assert_eq!(rt; next_of(&copy, &name(text)?), Some(next), "{text}");
-    }
-    Ok(())
 }
 
 #[test]
-fn at_most_64_nodes_are_added(rt: HostRuntime) -> Result<(), Fail> {
-    let mut graph = started(rt.alloc())?;
+fn at_most_64_nodes_are_added(rt: HostRuntime) {
+    let mut graph = started(&rt, rt.alloc());
     for i in 9..64u16 {
-        assert_eq!(rt; add_pass(&mut graph, numbered(i)?), Ok(()));
+        same(&rt, add_pass(&mut graph, numbered(&rt, i)), Ok(()));
     }
-    assert_eq!(rt;
-        add_pass(&mut graph, numbered(9)?),
-        Err(GraphError::DoubleName)
+    same(
+        &rt,
+        add_pass(&mut graph, numbered(&rt, 9)),
+        Err(GraphError::DoubleName),
     );
-    assert_eq!(rt;
-        add_pass(&mut graph, numbered(64)?),
-        Err(GraphError::TooMany)
+    same(
+        &rt,
+        add_pass(&mut graph, numbered(&rt, 64)),
+        Err(GraphError::TooMany),
     );
-    assert!(rt; is_node(&graph, 63, &numbered(63)?, Kind::Pass));
-    assert_eq!(rt; (graph.nodes(), graph.node(&numbered(64)?)), (64, None));
-    Ok(())
+    holds(&rt, is_node(&graph, 63, &numbered(&rt, 63), Kind::Pass));
+    same(
+        &rt,
+        (graph.nodes(), graph.node(&numbered(&rt, 64))),
+        (64, None),
+    );
 }
 
 #[test]
-fn at_most_16_interfaces_are_added(rt: HostRuntime) -> Result<(), Fail> {
-    let mut graph = started(rt.alloc())?;
+fn at_most_16_interfaces_are_added(rt: HostRuntime) {
+    let mut graph = started(&rt, rt.alloc());
     for i in 1..16u16 {
-        assert_eq!(rt; set_interface(&mut graph, numbered(i)?, 1500 + i), Ok(()));
+        same(
+            &rt,
+            set_interface(&mut graph, numbered(&rt, i), 1500 + i),
+            Ok(()),
+        );
     }
-    assert_eq!(rt;
-        set_interface(&mut graph, numbered(16)?, 1500),
-        Err(GraphError::TooMany)
+    same(
+        &rt,
+        set_interface(&mut graph, numbered(&rt, 16), 1500),
+        Err(GraphError::TooMany),
     );
-    assert_eq!(rt; set_interface(&mut graph, numbered(3)?, 68), Ok(()));
+    same(&rt, set_interface(&mut graph, numbered(&rt, 3), 68), Ok(()));
     let mac = Mac([2, 0, 0, 0, 0, 1]);
     for (i, mtu) in [(2, 1502), (3, 68), (4, 1504)] {
-        assert!(rt; is_interface(&graph, i, &numbered(i)?, mac, mtu, true));
-        assert_eq!(rt; graph.interface(&numbered(i)?), Some(i));
+        holds(
+            &rt,
+            is_interface(&graph, i, &numbered(&rt, i), mac, mtu, true),
+        );
+        same(&rt, graph.interface(&numbered(&rt, i)), Some(i));
     }
-    assert_eq!(rt;
-        (graph.interfaces(), graph.interface(&numbered(16)?)),
-        (16, None)
+    same(
+        &rt,
+        (graph.interfaces(), graph.interface(&numbered(&rt, 16))),
+        (16, None),
     );
-    Ok(())
 }
 
 #[test]
-fn at_most_256_adjacencies_are_added(rt: HostRuntime) -> Result<(), Fail> {
-    let mut graph = started(rt.alloc())?;
-    assert_eq!(rt; set_interface(&mut graph, name("lan")?, 1500), Ok(()));
+fn at_most_256_adjacencies_are_added(rt: HostRuntime) {
+    let mut graph = started(&rt, rt.alloc());
+    same(
+        &rt,
+        set_interface(&mut graph, name(&rt, "lan"), 1500),
+        Ok(()),
+    );
     for i in 0..256u16 {
-        assert_eq!(rt; set_adjacency(&mut graph, i, "pg0", 1)?, Ok(()));
+        same(&rt, set_adjacency(&rt, &mut graph, i, "pg0", 1), Ok(()));
     }
-    assert_eq!(rt;
-        set_adjacency(&mut graph, 256, "nowhere", 1)?,
-        Err(GraphError::UnknownInterface)
+    same(
+        &rt,
+        set_adjacency(&rt, &mut graph, 256, "nowhere", 1),
+        Err(GraphError::UnknownInterface),
     );
-    assert_eq!(rt;
-        set_adjacency(&mut graph, 256, "lan", 1)?,
-        Err(GraphError::TooMany)
+    same(
+        &rt,
+        set_adjacency(&rt, &mut graph, 256, "lan", 1),
+        Err(GraphError::TooMany),
     );
-    assert_eq!(rt; set_adjacency(&mut graph, 7, "lan", 99)?, Ok(()));
+    same(&rt, set_adjacency(&rt, &mut graph, 7, "lan", 99), Ok(()));
     for (i, interface, last) in [(6, 0, 1), (7, 1, 99), (8, 0, 1)] {
-        assert!(rt; is_adjacency(&graph, i, &numbered(i)?, interface, last));
-        assert_eq!(rt; graph.adjacency(&numbered(i)?), Some(i));
+        holds(
+            &rt,
+            is_adjacency(&graph, i, &numbered(&rt, i), interface, last),
+        );
+        same(&rt, graph.adjacency(&numbered(&rt, i)), Some(i));
     }
-    assert_eq!(rt;
-        (graph.adjacencies(), graph.adjacency(&numbered(256)?)),
-        (256, None)
+    same(
+        &rt,
+        (graph.adjacencies(), graph.adjacency(&numbered(&rt, 256))),
+        (256, None),
     );
-    Ok(())
 }
 
 #[test]
-fn a_new_node_of_two_slots_drops_over_both(rt: HostRuntime) -> Result<(), Fail> {
-    let mut graph = started(rt.alloc())?;
+fn a_new_node_of_two_slots_drops_over_both(rt: HostRuntime) {
+    let mut graph = started(&rt, rt.alloc());
     let kind = Kind::Dot1qMatch(VlanId { number: 100 });
-    add_node(&mut graph, "cut", kind)?;
-    let n = graph.node(&name("cut")?).ok_or("the node")?;
-    assert!(rt; graph.kind(n) == kind);
-    assert!(rt; graph.kind(n).slots() == 2);
-    assert_eq!(rt; (graph.arc(n, 0), graph.arc(n, 1)), (8, 8));
+    add_node(&rt, &mut graph, "cut", kind);
+    let n = graph.node(&name(&rt, "cut")).expect(&rt, "the node");
+    holds(&rt, graph.kind(n) == kind);
+    holds(&rt, graph.kind(n).slots() == 2);
+    same(&rt, (graph.arc(n, 0), graph.arc(n, 1)), (8, 8));
     // The second slot is led away, and the first stays.
-    assert_eq!(rt;
-        set_arc(&mut graph, "cut", "else", "ethernet-input")?,
-        Ok(())
+    same(
+        &rt,
+        set_arc(&rt, &mut graph, "cut", "else", "ethernet-input"),
+        Ok(()),
     );
-    assert!(rt; n < graph.nodes() && graph.kind(n) == kind);
-    assert_eq!(rt; (graph.arc(n, 0), graph.arc(n, 1)), (8, 2));
+    holds(&rt, n < graph.nodes() && graph.kind(n) == kind);
+    same(&rt, (graph.arc(n, 0), graph.arc(n, 1)), (8, 2));
     // A walk over the second slot is one too.
-    assert_eq!(rt;
-        set_arc(&mut graph, "ip4-rewrite", "output", "cut")?,
-        Err(GraphError::Cycle)
+    same(
+        &rt,
+        set_arc(&rt, &mut graph, "ip4-rewrite", "output", "cut"),
+        Err(GraphError::Cycle),
     );
-    assert_eq!(rt;
-        set_arc(&mut graph, "cut", "match", "interface-tx")?,
-        Ok(())
+    same(
+        &rt,
+        set_arc(&rt, &mut graph, "cut", "match", "interface-tx"),
+        Ok(()),
     );
-    assert_eq!(rt;
-        set_arc(&mut graph, "cut", "out", "interface-tx")?,
-        Err(GraphError::UnknownSlot)
+    same(
+        &rt,
+        set_arc(&rt, &mut graph, "cut", "out", "interface-tx"),
+        Err(GraphError::UnknownSlot),
     );
-    Ok(())
 }

@@ -1,12 +1,14 @@
 //! Tests of values and tables, captures, graphs, plans and reports, a module for each crate, over the built libraries. They stand in a
 //! crate of tests alone, since a crate that has tests is proved twice.
 //!
-//! In which order to read: `model`, `capture`, `savefile`, `load`, `graph`, `fib`, `fib6`, `plan`, `plan_routes`, `process`, `packet`,
+//! In which order to read: `checks`, `model`, `capture`, `savefile`, `load`, `graph`, `fib`, `fib6`, `plan`, `plan_routes`, `process`, `packet`,
 //! `fates`, `report`.
 #![tactic(auto)]
 
 #[cfg(test)]
 mod capture;
+#[cfg(test)]
+mod checks;
 #[cfg(test)]
 mod fates;
 #[cfg(test)]

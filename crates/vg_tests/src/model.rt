@@ -1,53 +1,62 @@
 //! Tests of the types: names, lists, and the tables of errors and kinds.
 
+use crate::checks::{has_length, holds, same};
 use std::process::Abort;
-use std::test::Fail;
 use vg_model::{laws, *};
 
 const NAME_BYTES: &[u8] = b"abcdefghijklmnopqrstuvwxyzABCDEFGHIJKLMNOPQRSTUVWXYZ0123456789-_.";
 
 #[test]
-fn a_name_has_1_to_32_bytes(rt: HostRuntime) -> Result<(), Fail> {
-    assert!(rt; Name::of(b"").is_none());
-    assert_eq!(rt; Name::of(b"a").ok_or("one byte")?.bytes(), b"a".as_slice());
-    let longest = b"abcdefghijklmnopqrstuvwxyz-_.012";
-    assert_eq!(rt;
-        Name::of(longest).ok_or("32 bytes")?.bytes(),
-        longest.as_slice()
+fn a_name_has_1_to_32_bytes(rt: HostRuntime) {
+    holds(&rt, Name::of(b"").is_none());
+    same(
+        &rt,
+        Name::of(b"a").expect(&rt, "one byte").bytes(),
+        b"a".as_slice(),
     );
-    assert!(rt; Name::of(b"abcdefghijklmnopqrstuvwxyz-_.0123").is_none());
-    Ok(())
+    let longest = b"abcdefghijklmnopqrstuvwxyz-_.012";
+    same(
+        &rt,
+        Name::of(longest).expect(&rt, "32 bytes").bytes(),
+        longest.as_slice(),
+    );
+    holds(
+        &rt,
+        Name::of(b"abcdefghijklmnopqrstuvwxyz-_.0123").is_none(),
+    );
 }
 
 #[test]
 fn a_name_is_of_letters_digits_and_three_marks(rt: HostRuntime) {
     for byte in 0..=255u8 {
-        assert_eq!(rt;
-            Name::of(&[byte]).is_some(),
-            NAME_BYTES.contains(&byte),
-            "at {byte}"
+        same(
+            &rt,
+            (byte, Name::of(&[byte]).is_some()),
+            (byte, NAME_BYTES.contains(&byte)),
         );
     }
 }
 
 #[test]
-fn names_are_printed_copied_and_compared(rt: HostRuntime) -> Result<(), Fail> {
-    let name = Name::of(b"pg-0").ok_or("a name")?;
-    assert_eq!(rt; name.as_str(), "pg-0");
-    assert_eq!(rt;
-        format!(in rt.alloc(); "{name} {name:?}")?.as_str(),
-        "pg-0 \"pg-0\""
+fn names_are_printed_copied_and_compared(rt: HostRuntime) {
+    let name = Name::of(b"pg-0").expect(&rt, "a name");
+    same(&rt, name.as_str(), "pg-0");
+    same(
+        &rt,
+        format!(in rt.alloc(); "{name} {name:?}")
+            .expect(&rt, "memory")
+            .as_str(),
+        "pg-0 \"pg-0\"",
     );
-    assert_eq!(rt; name.clone()?, name);
-    assert_ne!(rt; Name::of(b"pg-1").ok_or("another name")?, name);
-    Ok(())
+    same(&rt, &name.clone().expect(&rt, "memory"), &name);
+    assert_ne!(rt; Name::of(b"pg-1").expect(&rt, "another name"), name);
 }
 
 #[test]
-fn lists_give_back_what_they_are_made_of(rt: HostRuntime) -> Result<(), Fail> {
-    let bytes = Bytes::from_vec([1, 2].to_vec(rt.alloc())?);
-    assert_eq!(rt; bytes.as_slice(), [1, 2].as_slice());
-    assert_eq!(rt; bytes.into_vec().as_slice(), [1, 2].as_slice());
+fn lists_give_back_what_they_are_made_of(rt: HostRuntime) {
+    let bytes = Bytes::from_vec([1, 2].to_vec(rt.alloc()).expect(&rt, "memory"));
+    same(&rt, bytes.as_slice(), [1, 2].as_slice());
+    same(&rt, bytes.into_vec().as_slice(), [1, 2].as_slice());
 
     let prefix = Prefix {
         addr: 0x0a00_0000,
@@ -57,9 +66,9 @@ fn lists_give_back_what_they_are_made_of(rt: HostRuntime) -> Result<(), Fail> {
         line: 7,
         edit: Edit::Unroute { prefix },
     };
-    let edits = Edits::from_vec(vec![in rt.alloc(); line]?);
-    assert_eq!(rt; edits.as_slice().len(), 1);
-    assert_eq!(rt; edits.into_vec().pop().ok_or("an edit")?.line, 7);
+    let edits = Edits::from_vec(vec![in rt.alloc(); line].expect(&rt, "memory"));
+    has_length(&rt, edits.as_slice().len(), 1);
+    same(&rt, edits.into_vec().pop().expect(&rt, "an edit").line, 7);
 
     let fate = Fate {
         number: 9,
@@ -67,23 +76,23 @@ fn lists_give_back_what_they_are_made_of(rt: HostRuntime) -> Result<(), Fail> {
         congested: None,
         end: End::Tx { interface: 0 },
     };
-    let fates = Fates::from_vec(vec![in rt.alloc(); fate]?);
-    assert_eq!(rt; fates.as_slice().len(), 1);
-    assert_eq!(rt; fates.into_vec().pop().ok_or("a fate")?.number, 9);
-    Ok(())
+    let fates = Fates::from_vec(vec![in rt.alloc(); fate].expect(&rt, "memory"));
+    has_length(&rt, fates.as_slice().len(), 1);
+    same(&rt, fates.into_vec().pop().expect(&rt, "a fate").number, 9);
 }
 
 #[test]
 fn legs_stand_in_their_order(rt: HostRuntime) {
     let mut legs = Legs::new();
-    assert!(rt; legs.as_slice().is_empty());
+    holds(&rt, legs.as_slice().is_empty());
     legs.push(leg(0));
     legs.push(leg(1));
     legs.push(leg(2));
     legs.push(leg(3));
-    assert_eq!(rt;
+    same(
+        &rt,
         legs.as_slice(),
-        [leg(0), leg(1), leg(2), leg(3)].as_slice()
+        [leg(0), leg(1), leg(2), leg(3)].as_slice(),
     );
 }
 
@@ -118,8 +127,8 @@ fn errors_have_their_numbers_and_words(rt: HostRuntime) {
         "blackhole",
     ];
     for (i, error) in DropError::ALL.iter().enumerate() {
-        assert_eq!(rt; error.number() as usize, i);
-        assert_eq!(rt; error.word(), words[i]);
+        same(&rt, error.number() as usize, i);
+        same(&rt, error.word(), words[i]);
     }
 }
 
@@ -158,22 +167,22 @@ fn numbered(
 /// Asserts that the kind has each of its slots by the slot's name, and no other.
 fn assert_slots(rt: &impl Abort, kind: Kind) {
     let names = kind.slot_names();
-    assert_eq!(rt; kind.slots() as usize, names.len(), "{kind:?}");
+    same(rt, (kind, kind.slots() as usize), (kind, names.len()));
     for (place, slot) in names.iter().enumerate() {
-        assert_eq!(rt; kind.slot(slot.as_bytes()).map(usize::from), Some(place));
+        same(rt, kind.slot(slot.as_bytes()).map(usize::from), Some(place));
     }
-    assert_eq!(rt; kind.slot(b"no-slot"), None, "{kind:?}");
+    same(rt, (kind, kind.slot(b"no-slot")), (kind, None));
 }
 
 /// Asserts that the kind is as its row says.
 fn assert_kind(rt: &impl Abort, row: KindRow) {
     let kind = row.kind;
     let word = if row.in_scripts { Some(row.name) } else { None };
-    assert_eq!(rt; kind.name(), row.name);
-    assert_eq!(rt; kind.word(), word, "{kind:?}");
-    assert_eq!(rt; kind.slot_names(), row.slots, "{kind:?}");
+    same(rt, kind.name(), row.name);
+    same(rt, (kind, kind.word()), (kind, word));
+    same(rt, (kind, kind.slot_names()), (kind, row.slots));
     assert_slots(rt, kind);
-    assert_eq!(rt; kind.is_source(), row.is_source, "{kind:?}");
+    same(rt, (kind, kind.is_source()), (kind, row.is_source));
 }
 
 /// The kinds without a number: their texts, whether scripts make nodes of them, their slots, and whether packets come in by no arc.
@@ -285,64 +294,62 @@ fn kinds_with_numbers_are_as_the_formats_say(rt: HostRuntime) {
 #[test]
 fn kinds_without_a_number_are_listed_once(rt: HostRuntime) {
     for (place, kind) in Kind::PLAIN.iter().enumerate() {
-        assert_eq!(rt; kind.word(), Some(kind.name()), "{kind:?}");
-        assert_eq!(rt; kind.name().number, None, "{kind:?}");
-        assert!(rt; !kind.is_source(), "{kind:?}");
+        same(&rt, (kind, kind.word()), (kind, Some(kind.name())));
+        same(&rt, (kind, kind.name().number), (kind, None));
+        same(&rt, (kind, kind.is_source()), (kind, false));
         assert_slots(&rt, *kind);
-        assert_eq!(rt;
+        same(
+            &rt,
             Kind::PLAIN.iter().position(|other| other == kind),
-            Some(place)
+            Some(place),
         );
     }
 }
 
 #[test]
-fn members_are_1_to_16_in_their_order(rt: HostRuntime) -> Result<(), Fail> {
-    assert_eq!(rt; Members::of(&[]), None);
-    let one = Members::of(&[7]).ok_or("one")?;
-    assert_eq!(rt; one, Members::one(7));
-    assert_eq!(rt; one.as_slice(), [7].as_slice());
+fn members_are_1_to_16_in_their_order(rt: HostRuntime) {
+    same(&rt, Members::of(&[]), None);
+    let one = Members::of(&[7]).expect(&rt, "one");
+    same(&rt, one, Members::one(7));
+    same(&rt, one.as_slice(), [7].as_slice());
     let mut all = Members::one(0);
     for number in 1..16 {
-        assert!(rt; all.as_slice().len() < 16);
+        holds(&rt, all.as_slice().len() < 16);
         all.push(number);
     }
     let sixteen = [0, 1, 2, 3, 4, 5, 6, 7, 8, 9, 10, 11, 12, 13, 14, 15];
-    assert_eq!(rt; all.as_slice(), sixteen.as_slice());
-    assert_eq!(rt; Members::of(&sixteen), Some(all));
+    same(&rt, all.as_slice(), sixteen.as_slice());
+    same(&rt, Members::of(&sixteen), Some(all));
     let more = [0, 1, 2, 3, 4, 5, 6, 7, 8, 9, 10, 11, 12, 13, 14, 15, 16];
-    assert_eq!(rt; Members::of(&more), None);
+    same(&rt, Members::of(&more), None);
     assert_ne!(rt; one, all);
-    Ok(())
 }
 
 #[test]
-fn a_hash_picks_a_member_by_all_but_its_lowest_three_bits(rt: HostRuntime) -> Result<(), Fail> {
-    let two = Members::of(&[10, 11]).ok_or("two")?;
+fn a_hash_picks_a_member_by_all_but_its_lowest_three_bits(rt: HostRuntime) {
+    let two = Members::of(&[10, 11]).expect(&rt, "two");
     // 0xcacbcbc9 div 8 is 425294201, and 0xcacbcbc1 div 8 one less.
-    assert_eq!(rt; two.member(0xcacb_cbc9), 11);
-    assert_eq!(rt; two.member(0xcacb_cbc1), 10);
-    assert_eq!(rt; two.member(0), 10);
-    assert_eq!(rt; two.member(7), 10);
-    assert_eq!(rt; two.member(8), 11);
-    assert_eq!(rt; two.member(15), 11);
-    assert_eq!(rt; two.member(16), 10);
+    same(&rt, two.member(0xcacb_cbc9), 11);
+    same(&rt, two.member(0xcacb_cbc1), 10);
+    same(&rt, two.member(0), 10);
+    same(&rt, two.member(7), 10);
+    same(&rt, two.member(8), 11);
+    same(&rt, two.member(15), 11);
+    same(&rt, two.member(16), 10);
     // 425294201 mod 3 is 2.
-    let three = Members::of(&[1, 1, 0]).ok_or("three")?;
-    assert_eq!(rt; three.member(0xcacb_cbc9), 0);
-    assert_eq!(rt; three.member(u32::MAX), 1);
-    assert_eq!(rt; Members::one(9).member(u32::MAX), 9);
-    Ok(())
+    let three = Members::of(&[1, 1, 0]).expect(&rt, "three");
+    same(&rt, three.member(0xcacb_cbc9), 0);
+    same(&rt, three.member(u32::MAX), 1);
+    same(&rt, Members::one(9).member(u32::MAX), 9);
 }
 
 #[test]
-fn names_are_kept_in_their_order(rt: HostRuntime) -> Result<(), Fail> {
-    let a = Name::of(b"a").ok_or("a name")?;
-    let b = Name::of(b"b").ok_or("a name")?;
-    let names = Names::from_vec(vec![in rt.alloc(); a, b]?);
-    assert_eq!(rt; names.as_slice().len(), 2);
-    assert_eq!(rt; names.into_vec().len(), 2);
-    Ok(())
+fn names_are_kept_in_their_order(rt: HostRuntime) {
+    let a = Name::of(b"a").expect(&rt, "a name");
+    let b = Name::of(b"b").expect(&rt, "a name");
+    let names = Names::from_vec(vec![in rt.alloc(); a, b].expect(&rt, "memory"));
+    has_length(&rt, names.as_slice().len(), 2);
+    has_length(&rt, names.into_vec().len(), 2);
 }
 
 #[test]

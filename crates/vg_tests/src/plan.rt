@@ -1,8 +1,8 @@
 //! Tests of plans: the generations of a script, their limits, and its refusals.
 
+use crate::checks::{holds, same};
 use std::alloc::Global;
 use std::process::Abort;
-use std::test::Fail;
 use vg_capture::{Capture, Captured, Packets};
 use vg_model::{Bytes, Edits, Members, RouteTo};
 use vg_plan::*;
@@ -29,22 +29,24 @@ fn planned(alloc: Global, text: &[u8]) -> Result<Plan, ScriptError> {
 }
 
 /// A capture of empty packets at these times in microseconds.
-fn capture_at(rt: &impl Abort, alloc: Global, times: &[u32]) -> Result<Capture, Fail> {
+fn capture_at(rt: &impl Abort, alloc: Global, times: &[u32]) -> Capture {
     let mut packets = Vec::new(alloc);
     for time in times {
-        packets.push(Captured {
-            seconds: 7,
-            fraction: *time,
-            original: 0,
-            bytes: Bytes::from_vec(Vec::new(alloc)),
-        })?;
+        packets
+            .push(Captured {
+                seconds: 7,
+                fraction: *time,
+                original: 0,
+                bytes: Bytes::from_vec(Vec::new(alloc)),
+            })
+            .expect(rt, "memory");
     }
-    assert!(rt; packets.len() < 100);
-    Ok(Capture {
+    holds(rt, packets.len() < 100);
+    Capture {
         nanos: false,
         snaplen: 262_144,
-        packets: Packets::of(alloc, packets.as_slice())?,
-    })
+        packets: Packets::of(alloc, packets.as_slice()).expect(rt, "memory"),
+    }
 }
 
 /// Whether these are the limits of the generations.
@@ -68,18 +70,11 @@ fn holds_limits(book: &Book, limits: &[u32]) -> bool {
 }
 
 /// The limits of the generations are these, by the plan and in its book.
-fn assert_limits(
-    rt: &impl Abort,
-    alloc: Global,
-    plan: &Plan,
-    times: &[u32],
-    limits: &[u32],
-) -> Result<(), Fail> {
-    let capture = capture_at(rt, alloc, times)?;
-    assert!(rt; has_limits(plan, &capture, limits));
-    let book = plan.book(alloc, &capture).map_err(|_| "no memory")?;
-    assert!(rt; holds_limits(&book, limits));
-    Ok(())
+fn assert_limits(rt: &impl Abort, alloc: Global, plan: &Plan, times: &[u32], limits: &[u32]) {
+    let capture = capture_at(rt, alloc, times);
+    holds(rt, has_limits(plan, &capture, limits));
+    let book = plan.book(alloc, &capture).expect(rt, "memory");
+    holds(rt, holds_limits(&book, limits));
 }
 
 /// The plan of a text that is accepted. It is expected here and by the tests, as masters are: where a `?` stands, the drop of each master and plan
@@ -136,21 +131,27 @@ fn are_in_force(plan: &Plan, generations: &[(u64, u32)]) -> bool {
 }
 
 #[test]
-fn a_change_comes_at_its_time(rt: HostRuntime) -> Result<(), Fail> {
-    let plan = planned(rt.alloc(), EAST)?;
-    assert_eq!(rt; plan.generations(), 2);
-    assert!(rt; are_in_force(&plan, &[(0, 0), (999, 0), (1000, 1), (u64::MAX, 1)]));
+fn a_change_comes_at_its_time(rt: HostRuntime) {
+    let plan = plan_of(&rt, rt.alloc(), EAST);
+    same(&rt, plan.generations(), 2);
+    holds(
+        &rt,
+        are_in_force(&plan, &[(0, 0), (999, 0), (1000, 1), (u64::MAX, 1)]),
+    );
 
     // The last packet is stamped before the change, and comes after it.
-    assert_limits(&rt, rt.alloc(), &plan, &[0, 999, 1000, 500], &[2, 4])?;
+    assert_limits(&rt, rt.alloc(), &plan, &[0, 999, 1000, 500], &[2, 4]);
     assert_limits(&rt, rt.alloc(), &plan, &[], &[0, 0])
 }
 
 #[test]
-fn events_at_one_time_come_by_line(rt: HostRuntime) -> Result<(), Fail> {
-    let plan = planned(rt.alloc(), FLAP)?;
-    assert_eq!(rt; plan.generations(), 5);
-    assert!(rt; are_in_force(&plan, &[(99, 0), (100, 2), (299, 3), (300, 4)]));
+fn events_at_one_time_come_by_line(rt: HostRuntime) {
+    let plan = plan_of(&rt, rt.alloc(), FLAP);
+    same(&rt, plan.generations(), 5);
+    holds(
+        &rt,
+        are_in_force(&plan, &[(99, 0), (100, 2), (299, 3), (300, 4)]),
+    );
     assert_limits(
         &rt,
         rt.alloc(),
@@ -165,13 +166,13 @@ fn a_route_flaps(rt: HostRuntime) {
     let alloc = rt.alloc();
     let plan = plan_of(&rt, alloc, FLAP);
     let mut master = master_of(&rt, alloc, &plan);
-    assert!(rt; leads(&master, via_east()));
+    holds(&rt, leads(&master, via_east()));
     make(&rt, alloc, &mut master, group_of(&plan, 0));
-    assert!(rt; leads(&master, Some(RouteTo::Drop)));
+    holds(&rt, leads(&master, Some(RouteTo::Drop)));
     make(&rt, alloc, &mut master, edits_of(&plan, 1));
-    assert!(rt; leads(&master, Some(RouteTo::Local)));
+    holds(&rt, leads(&master, Some(RouteTo::Local)));
     make(&rt, alloc, &mut master, group_of(&plan, 1));
-    assert!(rt; leads(&master, via_east()));
+    holds(&rt, leads(&master, via_east()));
 }
 
 /// Why a text is refused, where it is.
@@ -180,16 +181,16 @@ fn refusal(alloc: Global, text: &[u8]) -> Option<ScriptError> {
 }
 
 #[test]
-fn an_edit_of_an_event_is_refused(rt: HostRuntime) -> Result<(), Fail> {
-    let error = refusal(rt.alloc(), CYCLE).ok_or("planned")?;
-    assert_eq!(rt; (error.line, error.cause), (9, ScriptCause::Cycle));
+fn an_edit_of_an_event_is_refused(rt: HostRuntime) {
+    let error = refusal(rt.alloc(), CYCLE).expect(&rt, "a refusal");
+    same(&rt, (error.line, error.cause), (9, ScriptCause::Cycle));
     let text = b"at 5\nunroute 10.0.0.0/8\nend\nroute 0.0.0.0/0 via x\n";
-    let error = refusal(rt.alloc(), text).ok_or("planned")?;
-    assert_eq!(rt;
+    let error = refusal(rt.alloc(), text).expect(&rt, "a refusal");
+    same(
+        &rt,
         (error.line, error.cause),
-        (4, ScriptCause::UnknownAdjacency)
+        (4, ScriptCause::UnknownAdjacency),
     );
-    Ok(())
 }
 
 /// Whether a master refuses the edits of a script on this line, for this cause.
@@ -212,20 +213,23 @@ fn is_refused(
 fn a_refused_group_changes_nothing(rt: HostRuntime) {
     let alloc = rt.alloc();
     let plan = plan_of(&rt, alloc, b"");
-    assert!(rt; plan.generations() == 1);
+    holds(&rt, plan.generations() == 1);
     let mut master = master_of(&rt, alloc, &plan);
     let text = b"node a kind pass\nroute 10.0.0.0/8 drop\nunroute 11.0.0.0/8\n";
-    assert!(rt; is_refused(&rt, alloc, &mut master, text, 3, ScriptCause::NoRoute));
-    assert!(rt; master.graph().nodes() == 9);
-    assert!(rt; master.fib().routes().is_empty());
+    holds(
+        &rt,
+        is_refused(&rt, alloc, &mut master, text, 3, ScriptCause::NoRoute),
+    );
+    holds(&rt, master.graph().nodes() == 9);
+    holds(&rt, master.fib().routes().is_empty());
 }
 
 #[test]
 fn generations_come_one_after_the_other(rt: HostRuntime) {
     let plan = plan_of(&rt, rt.alloc(), FLAP);
     let generations = Generations::of(rt.alloc(), &plan).expect(&rt, "memory");
-    assert!(rt; leads(generations.master(), via_east()));
-    assert!(rt; plan.generations() == 5);
+    holds(&rt, leads(generations.master(), via_east()));
+    holds(&rt, plan.generations() == 5);
     let later = generations.advance().expect(&rt, "memory");
-    assert!(rt; leads(later.master(), Some(RouteTo::Drop)));
+    holds(&rt, leads(later.master(), Some(RouteTo::Drop)));
 }

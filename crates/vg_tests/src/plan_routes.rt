@@ -1,8 +1,8 @@
 //! Tests of routes over several adjacencies and of IPv6 routes, in plans.
 
+use crate::checks::{holds, same};
 use std::alloc::Global;
 use std::process::Abort;
-use std::test::Fail;
 use vg_model::{Members, Prefix6, RouteTo};
 use vg_plan::*;
 use vg_script::{ScriptCause, ScriptError, parse_script};
@@ -41,30 +41,32 @@ fn routes_lead_over_several_adjacencies(rt: HostRuntime) {
     let alloc = rt.alloc();
     let plan = planned(alloc, BOTH).expect(&rt, "a plan");
     let mut generations = Generations::of(alloc, &plan).expect(&rt, "memory");
-    assert!(rt; finds(generations.master(), via(&[1, 1, 0]), via(&[0, 1]), None));
-    assert!(rt; plan.generations() == 3);
+    holds(
+        &rt,
+        finds(generations.master(), via(&[1, 1, 0]), via(&[0, 1]), None),
+    );
+    holds(&rt, plan.generations() == 3);
     generations = generations.advance().expect(&rt, "memory");
     let local = Some(RouteTo::Local);
-    assert!(rt; finds(generations.master(), via(&[1, 1, 0]), via(&[0, 1]), local));
+    holds(
+        &rt,
+        finds(generations.master(), via(&[1, 1, 0]), via(&[0, 1]), local),
+    );
     generations = generations.advance().expect(&rt, "memory");
-    assert!(rt; finds(generations.master(), via(&[1, 1, 0]), via(&[1]), via(&[1])));
+    holds(
+        &rt,
+        finds(generations.master(), via(&[1, 1, 0]), via(&[1]), via(&[1])),
+    );
 }
 
 // A plan is refused on this line, for this cause.
-fn assert_refused(
-    rt: &impl Abort,
-    alloc: Global,
-    text: &[u8],
-    line: u32,
-    cause: ScriptCause,
-) -> Result<(), Fail> {
-    let error = planned(alloc, text).err().ok_or("planned")?;
-    assert_eq!(rt; (error.line, error.cause), (line, cause));
-    Ok(())
+fn assert_refused(rt: &impl Abort, alloc: Global, text: &[u8], line: u32, cause: ScriptCause) {
+    let error = planned(alloc, text).err().expect(rt, "a refusal");
+    same(rt, (error.line, error.cause), (line, cause));
 }
 
 #[test]
-fn unknown_adjacencies_and_prefixes_are_refused(rt: HostRuntime) -> Result<(), Fail> {
+fn unknown_adjacencies_and_prefixes_are_refused(rt: HostRuntime) {
     let alloc = rt.alloc();
     assert_refused(
         &rt,
@@ -72,14 +74,14 @@ fn unknown_adjacencies_and_prefixes_are_refused(rt: HostRuntime) -> Result<(), F
         b"adjacency e0 interface pg0 dst 02:00:00:00:00:10\nroute 10.0.0.0/8 via e0,e0,e1\n",
         2,
         ScriptCause::UnknownAdjacency,
-    )?;
+    );
     assert_refused(
         &rt,
         alloc,
         b"route6 ::/0 via e0\n",
         1,
         ScriptCause::UnknownAdjacency,
-    )?;
+    );
     assert_refused(
         &rt,
         alloc,
@@ -114,6 +116,6 @@ fn a_refused_group_changes_no_ip6_route(rt: HostRuntime) {
         .apply(alloc, &script.start)
         .err()
         .expect(&rt, "a refusal");
-    assert!(rt; error.line == 2 && error.cause == ScriptCause::NoRoute);
-    assert!(rt; has_the_site_alone(&master));
+    holds(&rt, error.line == 2 && error.cause == ScriptCause::NoRoute);
+    holds(&rt, has_the_site_alone(&master));
 }

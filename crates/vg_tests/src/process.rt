@@ -1,7 +1,8 @@
 //! Tests of processes: the events of scripts, as they come due.
 
+use crate::checks::{holds, same};
 use std::alloc::Global;
-use std::test::Fail;
+use std::process::Abort;
 use vg_model::{Edit, EditLine, Name, Prefix6, RouteWord};
 use vg_process::{Due, Processes};
 use vg_script::parse_script;
@@ -11,41 +12,39 @@ const FLAP: &[u8] =
     b"process p every 100 count 3\nunroute 10.0.0.0/8\nthen\nroute 10.0.0.0/8 drop\nroute 10.1.0.0/16 drop\nend\nat 100\nend\n";
 
 /// The processes of a text, with all events left.
-fn processes_of(alloc: Global, text: &[u8]) -> Result<Processes, Fail> {
-    let script = parse_script(alloc, text).map_err(|_| "a faulty script")?;
-    Ok(Processes::new(alloc, &script).map_err(|_| "no memory")?)
+fn processes_of(rt: &impl Abort, alloc: Global, text: &[u8]) -> Processes {
+    let script = parse_script(alloc, text).expect(rt, "a script");
+    Processes::new(alloc, &script).expect(rt, "memory")
 }
 
 /// The time and the line of the next event that is due, and how many edits it has.
-fn next_due(processes: &mut Processes, now: u64) -> Result<Option<(u64, u32, usize)>, Fail> {
-    let due = processes.poll(now).map_err(|_| "no memory")?;
-    Ok(due.map(|due: Due| (due.time, due.line, due.edits.as_slice().len())))
+fn next_due(rt: &impl Abort, processes: &mut Processes, now: u64) -> Option<(u64, u32, usize)> {
+    let due = processes.poll(now).expect(rt, "memory");
+    due.map(|due: Due| (due.time, due.line, due.edits.as_slice().len()))
 }
 
 #[test]
-fn an_empty_script_has_no_event(rt: HostRuntime) -> Result<(), Fail> {
-    let mut processes = processes_of(rt.alloc(), b"")?;
-    assert_eq!(rt; processes.next_time(), None);
-    assert_eq!(rt; next_due(&mut processes, u64::MAX)?, None);
-    Ok(())
+fn an_empty_script_has_no_event(rt: HostRuntime) {
+    let mut processes = processes_of(&rt, rt.alloc(), b"");
+    same(&rt, processes.next_time(), None);
+    same(&rt, next_due(&rt, &mut processes, u64::MAX), None);
 }
 
 #[test]
-fn events_come_by_time_and_then_by_line(rt: HostRuntime) -> Result<(), Fail> {
-    let mut processes = processes_of(rt.alloc(), FLAP)?;
-    assert_eq!(rt; processes.next_time(), Some(100));
-    assert_eq!(rt; next_due(&mut processes, 99)?, None);
-    assert_eq!(rt; next_due(&mut processes, 100)?, Some((100, 1, 1)));
-    assert_eq!(rt; next_due(&mut processes, 100)?, Some((100, 7, 0)));
-    assert_eq!(rt; next_due(&mut processes, 100)?, None);
-    assert_eq!(rt; processes.next_time(), Some(200));
+fn events_come_by_time_and_then_by_line(rt: HostRuntime) {
+    let mut processes = processes_of(&rt, rt.alloc(), FLAP);
+    same(&rt, processes.next_time(), Some(100));
+    same(&rt, next_due(&rt, &mut processes, 99), None);
+    same(&rt, next_due(&rt, &mut processes, 100), Some((100, 1, 1)));
+    same(&rt, next_due(&rt, &mut processes, 100), Some((100, 7, 0)));
+    same(&rt, next_due(&rt, &mut processes, 100), None);
+    same(&rt, processes.next_time(), Some(200));
 
     // Where the time goes on further, what is due comes one by one.
-    assert_eq!(rt; next_due(&mut processes, 1000)?, Some((200, 1, 2)));
-    assert_eq!(rt; next_due(&mut processes, 1000)?, Some((300, 1, 1)));
-    assert_eq!(rt; next_due(&mut processes, 1000)?, None);
-    assert_eq!(rt; processes.next_time(), None);
-    Ok(())
+    same(&rt, next_due(&rt, &mut processes, 1000), Some((200, 1, 2)));
+    same(&rt, next_due(&rt, &mut processes, 1000), Some((300, 1, 1)));
+    same(&rt, next_due(&rt, &mut processes, 1000), None);
+    same(&rt, processes.next_time(), None);
 }
 
 /// Routes over several neighbors, set anew in each period.
@@ -97,14 +96,13 @@ fn are_several(edits: &[EditLine]) -> bool {
 }
 
 #[test]
-fn each_run_has_the_whole_routes(rt: HostRuntime) -> Result<(), Fail> {
-    let mut processes = processes_of(rt.alloc(), SEVERAL)?;
+fn each_run_has_the_whole_routes(rt: HostRuntime) {
+    let mut processes = processes_of(&rt, rt.alloc(), SEVERAL);
     for time in [10, 20] {
-        let due = processes.poll(time).map_err(|_| "no memory")?;
-        let due = due.ok_or("no event")?;
-        assert_eq!(rt; due.time, time);
-        assert!(rt; are_several(due.edits.as_slice()));
+        let due = processes.poll(time).expect(&rt, "memory");
+        let due = due.expect(&rt, "an event");
+        same(&rt, due.time, time);
+        holds(&rt, are_several(due.edits.as_slice()));
     }
-    assert_eq!(rt; next_due(&mut processes, u64::MAX)?, None);
-    Ok(())
+    same(&rt, next_due(&rt, &mut processes, u64::MAX), None);
 }

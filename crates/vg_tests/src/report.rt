@@ -1,10 +1,10 @@
 //! Whole reports as text.
-ghost use Rattle.std.specs.Prelude.{◌≡◌, ◌≤◌, length, IfOk};
+ghost use Rattle.std.specs.Prelude.{◌≡◌, ◌≤◌, length};
 ghost use Rattle.vg_report.specs.Examples.{two_of_three_sent, every_kind_of_line};
 
-use std::alloc::{AllocError, Global};
+use crate::checks::{has_length, holds, same};
+use std::alloc::Global;
 use std::process::Abort;
-use std::test::Fail;
 use vg_model::{DropError, Leg, Legs, Name};
 use vg_report::laws::{read_is_lawful, texts_differ, written_is_read_back};
 use vg_report::{
@@ -53,8 +53,8 @@ fn legs(way: &[Leg]) -> Legs
 }
 
 // Two packets that are transmitted, and one that isn't IPv4.
-fn three_packets(alloc: Global, rt: &impl Abort) -> Result<PacketLines, AllocError>
-    ensures { IfOk result (λ lines. lines ≡ two_of_three_sent.packets) }
+fn three_packets(alloc: Global, rt: &impl Abort) -> PacketLines
+    ensures { result ≡ two_of_three_sent.packets }
 {
     let first = Leg {
         worker: 0,
@@ -83,16 +83,19 @@ fn three_packets(alloc: Global, rt: &impl Abort) -> Result<PacketLines, AllocErr
                 error: DropError::UnknownType
             },
         },
-    ]?;
-    Ok(PacketLines::from_vec(packets))
+    ]
+    .expect(rt, "memory");
+    PacketLines::from_vec(packets)
 }
 
 // One worker, three packets: two are transmitted, and one isn't IPv4.
-fn two_of_three(alloc: Global, rt: &impl Abort) -> Result<Report, AllocError>
-    ensures { IfOk result (λ report. report ≡ two_of_three_sent) }
+fn two_of_three(alloc: Global, rt: &impl Abort) -> Report
+    ensures { result ≡ two_of_three_sent }
 {
-    let interfaces = vec![in alloc; (name(rt, b"pg0"), 2)]?;
-    let nodes = vec![in alloc;
+    let Ok(interfaces) = vec![in alloc; (name(rt, b"pg0"), 2)] else {
+        panic!(rt; "no memory")
+    };
+    let Ok(nodes) = vec![in alloc;
         (name(rt, b"pg-input"), 3),
         (name(rt, b"handoff-dequeue"), 0),
         (name(rt, b"ethernet-input"), 3),
@@ -102,10 +105,14 @@ fn two_of_three(alloc: Global, rt: &impl Abort) -> Result<Report, AllocError>
         (name(rt, b"interface-output"), 0),
         (name(rt, b"interface-tx"), 2),
         (name(rt, b"error-drop"), 1),
-    ]?;
-    let errors = vec![in alloc; (name(rt, b"ethernet-input"), DropError::UnknownType, 1)]?;
-    let packets = three_packets(alloc, rt)?;
-    Ok(Report {
+    ] else {
+        panic!(rt; "no memory")
+    };
+    let Ok(errors) = vec![in alloc; (name(rt, b"ethernet-input"), DropError::UnknownType, 1)] else {
+        panic!(rt; "no memory")
+    };
+    let packets = three_packets(alloc, rt);
+    Report {
         workers: 1,
         buffers: 4096,
         generations: 1,
@@ -114,32 +121,37 @@ fn two_of_three(alloc: Global, rt: &impl Abort) -> Result<Report, AllocError>
         errors: ErrorCounts::from_vec(errors),
         packets,
         traces: TraceLines::from_vec(Vec::new(alloc)),
-    })
+    }
 }
 
 #[test]
-fn a_report_of_three_packets(rt: HostRuntime) -> Result<(), Fail> {
-    let report = two_of_three(rt.alloc(), &rt)?;
+fn a_report_of_three_packets(rt: HostRuntime) {
+    let report = two_of_three(rt.alloc(), &rt);
     let text = write_report(rt.alloc(), &report).expect(&rt, "memory");
-    assert_eq!(rt; text.as_slice(), THREE_PACKETS);
-    Ok(())
+    same(&rt, text.as_slice(), THREE_PACKETS);
 }
 
 // Two workers, two generations and two interfaces: a packet is transmitted after a handoff, one finds a
 // queue full, and one has too many legs.
-fn every_kind(alloc: Global, rt: &impl Abort) -> Result<Report, AllocError>
-    ensures { IfOk result (λ report. report ≡ every_kind_of_line) }
+fn every_kind(alloc: Global, rt: &impl Abort) -> Report
+    ensures { result ≡ every_kind_of_line }
 {
-    let interfaces = vec![in alloc; (name(rt, b"pg0"), 0), (name(rt, b"west"), 1)]?;
-    let nodes = vec![in alloc;
+    let Ok(interfaces) = vec![in alloc; (name(rt, b"pg0"), 0), (name(rt, b"west"), 1)] else {
+        panic!(rt; "no memory")
+    };
+    let Ok(nodes) = vec![in alloc;
         (name(rt, b"pg-input"), 3),
         (name(rt, b"error-drop"), 2),
         (name(rt, b"hand"), 6),
-    ]?;
-    let errors = vec![in alloc;
+    ] else {
+        panic!(rt; "no memory")
+    };
+    let Ok(errors) = vec![in alloc;
         (name(rt, b"hand"), DropError::Congestion, 1),
         (name(rt, b"hand"), DropError::HandoffLimit, 1),
-    ]?;
+    ] else {
+        panic!(rt; "no memory")
+    };
     let old = Leg {
         worker: 0,
         generation: 0,
@@ -156,7 +168,7 @@ fn every_kind(alloc: Global, rt: &impl Abort) -> Result<Report, AllocError>
         worker: 1,
         generation: 0,
     };
-    let packets = vec![in alloc;
+    let Ok(packets) = vec![in alloc;
         PacketLine {
             legs: legs(&[old, new_elsewhere]),
             congested: None,
@@ -180,16 +192,24 @@ fn every_kind(alloc: Global, rt: &impl Abort) -> Result<Report, AllocError>
                 error: DropError::HandoffLimit
             },
         },
-    ]?;
+    ] else {
+        panic!(rt; "no memory")
+    };
     let packets = PacketLines::from_vec(packets);
-    let short = vec![in alloc; name(rt, b"pg-input"), name(rt, b"hand")]?;
-    let long = vec![in alloc;
+    let Ok(short) = vec![in alloc; name(rt, b"pg-input"), name(rt, b"hand")] else {
+        panic!(rt; "no memory")
+    };
+    let Ok(long) = vec![in alloc;
         name(rt, b"pg-input"),
         name(rt, b"hand"),
         name(rt, b"error-drop"),
-    ]?;
-    let traces = vec![in alloc; Names::from_vec(short), Names::from_vec(long)]?;
-    Ok(Report {
+    ] else {
+        panic!(rt; "no memory")
+    };
+    let Ok(traces) = vec![in alloc; Names::from_vec(short), Names::from_vec(long)] else {
+        panic!(rt; "no memory")
+    };
+    Report {
         workers: 2,
         buffers: 768,
         generations: 2,
@@ -198,12 +218,12 @@ fn every_kind(alloc: Global, rt: &impl Abort) -> Result<Report, AllocError>
         errors: ErrorCounts::from_vec(errors),
         packets,
         traces: TraceLines::from_vec(traces),
-    })
+    }
 }
 
 #[test]
-fn a_report_with_every_kind_of_line(rt: HostRuntime) -> Result<(), Fail> {
-    let report = every_kind(rt.alloc(), &rt)?;
+fn a_report_with_every_kind_of_line(rt: HostRuntime) {
+    let report = every_kind(rt.alloc(), &rt);
     let text = write_report(rt.alloc(), &report).expect(&rt, "memory");
     let expected = b"vgd report 1
 workers 2
@@ -224,16 +244,15 @@ trace 0 pg-input hand
 trace 1 pg-input hand error-drop
 end
 ";
-    assert_eq!(rt; text.as_slice(), expected.as_slice());
-    assert_eq!(rt; report.interfaces.into_vec().len(), 2);
-    assert_eq!(rt; report.nodes.into_vec().len(), 3);
-    assert_eq!(rt; report.errors.into_vec().len(), 2);
-    assert_eq!(rt; report.packets.len(), 3);
+    same(&rt, text.as_slice(), expected.as_slice());
+    has_length(&rt, report.interfaces.into_vec().len(), 2);
+    has_length(&rt, report.nodes.into_vec().len(), 3);
+    has_length(&rt, report.errors.into_vec().len(), 2);
+    has_length(&rt, report.packets.len(), 3);
     let mut traces = report.traces.into_vec();
-    assert_eq!(rt; traces.len(), 2);
-    let last = traces.pop().ok_or("a trace")?;
-    assert_eq!(rt; last.into_vec().len(), 3);
-    Ok(())
+    has_length(&rt, traces.len(), 2);
+    let last = traces.pop().expect(&rt, "a trace");
+    has_length(&rt, last.into_vec().len(), 3);
 }
 
 // Whether the names and the counts are the same.
@@ -285,19 +304,28 @@ fn same_packets(one: &PacketLines, other: &PacketLines) -> bool {
 }
 
 #[test]
-fn a_report_of_three_packets_is_read(rt: HostRuntime) -> Result<(), Fail> {
-    let expected = two_of_three(rt.alloc(), &rt)?;
-    let report = read_report(rt.alloc(), THREE_PACKETS)?;
-    assert_eq!(rt;
+fn a_report_of_three_packets_is_read(rt: HostRuntime) {
+    let expected = two_of_three(rt.alloc(), &rt);
+    let report = read_report(rt.alloc(), THREE_PACKETS).expect(&rt, "a report");
+    same(
+        &rt,
         (report.workers, report.buffers, report.generations),
-        (1, 4096, 1)
+        (1, 4096, 1),
     );
-    assert!(rt; same_counts(report.interfaces.as_slice(), expected.interfaces.as_slice()));
-    assert!(rt; same_counts(report.nodes.as_slice(), expected.nodes.as_slice()));
-    assert!(rt; same_errors(report.errors.as_slice(), expected.errors.as_slice()));
-    assert!(rt; same_packets(&report.packets, &expected.packets));
-    assert!(rt; report.traces.as_slice().is_empty());
-    Ok(())
+    holds(
+        &rt,
+        same_counts(report.interfaces.as_slice(), expected.interfaces.as_slice()),
+    );
+    holds(
+        &rt,
+        same_counts(report.nodes.as_slice(), expected.nodes.as_slice()),
+    );
+    holds(
+        &rt,
+        same_errors(report.errors.as_slice(), expected.errors.as_slice()),
+    );
+    holds(&rt, same_packets(&report.packets, &expected.packets));
+    holds(&rt, report.traces.as_slice().is_empty());
 }
 
 // The line and the cause of a text's refusal.
@@ -313,12 +341,16 @@ fn a_text_is_refused_at_its_first_faulty_line(rt: HostRuntime) {
     let form = b"vgd report 1
 workers  1
 ";
-    assert_eq!(rt; refusal(rt.alloc(), form), Some((2, ReportCause::Form)));
+    same(&rt, refusal(rt.alloc(), form), Some((2, ReportCause::Form)));
     let number = b"vgd report 1
 workers 1
 buffers 16385
 ";
-    assert_eq!(rt; refusal(rt.alloc(), number), Some((3, ReportCause::Number)));
+    same(
+        &rt,
+        refusal(rt.alloc(), number),
+        Some((3, ReportCause::Number)),
+    );
     let unknown = b"vgd report 1
 workers 1
 buffers 0
@@ -327,9 +359,10 @@ packets 0
 interface 0 pg0 tx 0
 interface 1 pg0 tx 0
 ";
-    assert_eq!(rt;
+    same(
+        &rt,
         refusal(rt.alloc(), unknown),
-        Some((7, ReportCause::Unknown))
+        Some((7, ReportCause::Unknown)),
     );
     let order = b"vgd report 1
 workers 1
@@ -339,7 +372,11 @@ packets 0
 interface 0 pg0 tx 0
 node 1 pg-input 0
 ";
-    assert_eq!(rt; refusal(rt.alloc(), order), Some((7, ReportCause::Order)));
+    same(
+        &rt,
+        refusal(rt.alloc(), order),
+        Some((7, ReportCause::Order)),
+    );
 }
 
 #[test]
@@ -350,21 +387,21 @@ fn the_laws_hold() {
 }
 
 #[test]
-fn a_refusal_is_told_in_words(rt: HostRuntime) -> Result<(), Fail> {
+fn a_refusal_is_told_in_words(rt: HostRuntime) {
     let order = ReportError {
         line: 7,
         cause: ReportCause::Order,
     };
-    let text = format!(in rt.alloc(); "{order}")?;
-    assert_eq!(rt;
+    let text = format!(in rt.alloc(); "{order}").expect(&rt, "memory");
+    same(
+        &rt,
         text.as_str(),
-        "line 7: a running number or an error isn't the next"
+        "line 7: a running number or an error isn't the next",
     );
     let memory = ReportError {
         line: 0,
         cause: ReportCause::Memory,
     };
-    let text = format!(in rt.alloc(); "{memory}")?;
-    assert_eq!(rt; text.as_str(), "memory ran out");
-    Ok(())
+    let text = format!(in rt.alloc(); "{memory}").expect(&rt, "memory");
+    same(&rt, text.as_str(), "memory ran out");
 }

@@ -1,10 +1,10 @@
 //! The savefile of packets sent, whose bytes stand in its order, in another one, or in two lists.
-ghost use Rattle.std.specs.Prelude.{ℕ, List, ◌≡◌, ◌<◌, ◌^◌, IfOk, All, length};
+ghost use Rattle.std.specs.Prelude.{ℕ, List, ◌≡◌, ◌<◌, ◌^◌, All, length};
 ghost use Rattle.vg_underway.specs.SentEntries.{AreWithin, sent_by};
 
+use crate::checks::holds;
 use std::alloc::Global;
 use std::process::Abort;
-use std::test::Fail;
 use vg_capture::{Capture, Captured, Packets};
 use vg_model::Bytes;
 use vg_savefile::savefile_of;
@@ -39,8 +39,8 @@ const LONG_RECORD: [u8; 19] = [3, 0, 0, 0, 4, 0, 0, 0, 3, 0, 0, 0, 70, 0, 0, 0, 
 const SHORT_RECORD: [u8; 17] = [1, 0, 0, 0, 2, 0, 0, 0, 1, 0, 0, 0, 60, 0, 0, 0, 10];
 
 /// Two captured packets: a savefile takes their times and original lengths, and none of their bytes.
-fn capture_of_two(alloc: Global) -> Result<Capture, Fail>
-    ensures { IfOk result (λ capture. length capture.packets ≡ 2) }
+fn capture_of_two(rt: &impl Abort, alloc: Global) -> Capture
+    ensures { length result.packets ≡ 2 }
 {
     let packets = [
         Captured {
@@ -56,60 +56,58 @@ fn capture_of_two(alloc: Global) -> Result<Capture, Fail>
             bytes: Bytes::from_vec(Vec::new(alloc)),
         },
     ];
-    Ok(Capture {
+    Capture {
         nanos: false,
         snaplen: 262_144,
-        packets: Packets::of(alloc, &packets)?,
-    })
+        packets: Packets::of(alloc, &packets).expect(rt, "memory"),
+    }
 }
 
 /// The packets with these entries, whose bytes stand in this list.
-fn sent(alloc: Global, entries: &[SentEntry], bytes: &[u8]) -> Result<SentList, Fail>
+fn sent(rt: &impl Abort, alloc: Global, entries: &[SentEntry], bytes: &[u8]) -> SentList
     requires { AreWithin entries.now bytes.now }
-    ensures { IfOk result (λ sent. sent ≡ sent_by entries.now bytes.now) }
+    ensures { result ≡ sent_by entries.now bytes.now }
 {
-    Ok(SentList::new(entries.to_vec(alloc)?, bytes.to_vec(alloc)?))
+    SentList::new(
+        entries.to_vec(alloc).expect(rt, "memory"),
+        bytes.to_vec(alloc).expect(rt, "memory"),
+    )
 }
 
 /// The savefile is the header and these two records.
-fn is_saved(
-    rt: &impl Abort,
-    alloc: Global,
-    sent: SentList,
-    first: &[u8],
-    second: &[u8],
-) -> Result<(), Fail>
+fn is_saved(rt: &impl Abort, alloc: Global, sent: SentList, first: &[u8], second: &[u8])
     requires { All (λ (packet : ℕ × List ℕ). (packet.0 < 2) × (length packet.1 < 2 ^ 32)) sent }
 {
-    let capture = capture_of_two(alloc)?;
-    let file = savefile_of(alloc, &capture, sent)?.into_vec();
-    let mut expected = HEADER.to_vec(alloc)?;
-    expected.extend_from_slice(first)?;
-    expected.extend_from_slice(second)?;
-    assert!(rt; file.as_slice() == expected.as_slice());
-    Ok(())
+    let capture = capture_of_two(rt, alloc);
+    let file = savefile_of(alloc, &capture, sent)
+        .expect(rt, "memory")
+        .into_vec();
+    let mut expected = HEADER.to_vec(alloc).expect(rt, "memory");
+    expected.extend_from_slice(first).expect(rt, "memory");
+    expected.extend_from_slice(second).expect(rt, "memory");
+    holds(rt, file.as_slice() == expected.as_slice());
 }
 
 #[test]
-fn bytes_in_order_become_the_savefile(rt: HostRuntime) -> Result<(), Fail> {
-    let sent = sent(rt.alloc(), &[LONG, SHORT], &BYTES)?;
+fn bytes_in_order_become_the_savefile(rt: HostRuntime) {
+    let sent = sent(&rt, rt.alloc(), &[LONG, SHORT], &BYTES);
     is_saved(&rt, rt.alloc(), sent, &LONG_RECORD, &SHORT_RECORD)
 }
 
 #[test]
-fn bytes_in_another_order_are_written_anew(rt: HostRuntime) -> Result<(), Fail> {
-    let sent = sent(rt.alloc(), &[SHORT, LONG], &BYTES)?;
+fn bytes_in_another_order_are_written_anew(rt: HostRuntime) {
+    let sent = sent(&rt, rt.alloc(), &[SHORT, LONG], &BYTES);
     is_saved(&rt, rt.alloc(), sent, &SHORT_RECORD, &LONG_RECORD)
 }
 
 #[test]
-fn bytes_in_two_lists_are_written_anew(rt: HostRuntime) -> Result<(), Fail> {
+fn bytes_in_two_lists_are_written_anew(rt: HostRuntime) {
     let alloc = rt.alloc();
-    let long = sent(alloc, &[LONG], &BYTES)?;
-    let short = sent(alloc, &[SHORT], &BYTES)?;
+    let long = sent(&rt, alloc, &[LONG], &BYTES);
+    let short = sent(&rt, alloc, &[SHORT], &BYTES);
     let mut lists = Vec::new(alloc);
-    lists.push(long)?;
-    lists.push(short)?;
-    let sent = SentList::joined(alloc, lists)?;
+    lists.push(long).expect(&rt, "memory");
+    lists.push(short).expect(&rt, "memory");
+    let sent = SentList::joined(alloc, lists).expect(&rt, "memory");
     is_saved(&rt, alloc, sent, &LONG_RECORD, &SHORT_RECORD)
 }

@@ -1,4 +1,5 @@
 //! Headers whose checksums are known.
+use crate::checks::{holds, same};
 use std::process::Abort;
 use vg_packet::{lower_ttl, lowered_ttl, verify_header};
 
@@ -32,19 +33,19 @@ fn header(identification: u16, time_to_live: u8, checksum: u16) -> [u8; 20] {
 
 /// The header verifies, and lowering its time to live leaves `after`.
 fn assert_lowered(rt: &impl Abort, mut header: [u8; 20], after: [u8; 20]) {
-    assert!(rt; verify_header(&header), "{header:?}");
-    assert!(rt; header[0] != 0 && header[8] >= 1, "{header:?}");
+    holds(rt, verify_header(&header));
+    holds(rt, header[0] != 0 && header[8] >= 1);
     let lowered = lowered_ttl(&header);
-    assert_eq!(rt; lowered, [after[8], after[9], after[10], after[11]]);
+    same(rt, lowered, [after[8], after[9], after[10], after[11]]);
     lower_ttl(&mut header);
-    assert_eq!(rt; header, after);
+    same(rt, header, after);
 }
 
 #[test]
 fn a_wrong_checksum_does_not_verify(rt: HostRuntime) {
-    assert!(rt; !verify_header(&header(0x0000, 64, 0xacd5)));
-    assert!(rt; !verify_header(&header(0x0000, 63, 0xacd4)));
-    assert!(rt; !verify_header(&[0; 20]));
+    holds(&rt, !verify_header(&header(0x0000, 64, 0xacd5)));
+    holds(&rt, !verify_header(&header(0x0000, 63, 0xacd4)));
+    holds(&rt, !verify_header(&[0; 20]));
 }
 
 #[test]
@@ -59,7 +60,7 @@ fn lowered_headers_have_their_checksums(rt: HostRuntime) {
         (0x0000, 1, 0xebd4, 0xecd4),
         (0x0000, 255, 0xedd3, 0xeed3),
     ] {
-        assert!(rt; time_to_live >= 1);
+        holds(&rt, time_to_live >= 1);
         assert_lowered(
             &rt,
             header(identification, time_to_live, checksum),
@@ -82,7 +83,7 @@ fn options_are_summed(rt: HostRuntime) {
         (14, 0x919f, [0x92, 0x9f]),
         (15, 0x8e99, [0x8f, 0x99]),
     ] {
-        assert!(rt; words >= 6 && words <= 15);
+        holds(&rt, words >= 6 && words <= 15);
         let len = usize::from(words) * 4;
         // No Operation options, and the End of Option List behind them
         let mut bytes = [1; 60];
@@ -92,9 +93,9 @@ fn options_are_summed(rt: HostRuntime) {
         bytes[len - 1] = 0;
         let header = &mut bytes[..len];
         assert!(rt; verify_header(header), "of {words} words");
-        assert!(rt; header[0] != 0 && header[8] >= 1);
+        holds(&rt, header[0] != 0 && header[8] >= 1);
         lower_ttl(header);
-        assert_eq!(rt; header[8], 63);
-        assert_eq!(rt; &header[10..12], lowered.as_slice(), "of {words} words");
+        same(&rt, header[8], 63);
+        same(&rt, (words, &header[10..12]), (words, lowered.as_slice()));
     }
 }

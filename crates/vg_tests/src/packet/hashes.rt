@@ -1,5 +1,5 @@
 //! Frames whose hashes are known.
-use std::test::Fail;
+use crate::checks::same;
 use vg_model::HashKind;
 use vg_packet::flow_hash;
 
@@ -21,27 +21,26 @@ fn hashes(frame: &[u8]) -> [u32; 3] {
 #[test]
 fn hashes_take_the_addresses_of_their_kind(rt: HostRuntime) {
     let plain = frame([10, 1, 2, 3], [0xac, 0xd4]);
-    assert_eq!(rt; hashes(&plain), [0xcacb_cbc9, 0xc0c0_c2c3, 0x0a0b_090a]);
+    same(&rt, hashes(&plain), [0xcacb_cbc9, 0xc0c0_c2c3, 0x0a0b_090a]);
     let other = frame([10, 1, 2, 11], [0xac, 0xcc]);
-    assert_eq!(rt; hashes(&other), [0xcacb_cbc1, 0xc0c0_c2c3, 0x0a0b_0902]);
+    same(&rt, hashes(&other), [0xcacb_cbc1, 0xc0c0_c2c3, 0x0a0b_0902]);
 }
 
 #[test]
 fn destinations_choose_workers(rt: HostRuntime) {
     let odd = frame([10, 0, 0, 1], [0xae, 0xd7]);
-    assert_eq!(rt; flow_hash(HashKind::Dst, &odd) % 2, 1);
+    same(&rt, flow_hash(HashKind::Dst, &odd) % 2, 1);
     let even = frame([10, 0, 0, 2], [0xae, 0xd6]);
-    assert_eq!(rt; flow_hash(HashKind::Dst, &even) % 2, 0);
+    same(&rt, flow_hash(HashKind::Dst, &even) % 2, 0);
 }
 
 #[test]
-fn frames_without_addresses_hash_to_0(rt: HostRuntime) -> Result<(), Fail> {
+fn frames_without_addresses_hash_to_0(rt: HostRuntime) {
     let plain = frame([10, 1, 2, 3], [0xac, 0xd4]);
-    let (_, short) = plain.split_last().ok_or("34 bytes")?;
-    assert_eq!(rt; hashes(short), [0, 0, 0]);
+    let (_, short) = plain.split_last().expect(&rt, "34 bytes");
+    same(&rt, hashes(short), [0, 0, 0]);
     let mut arp = plain;
     arp[13] = 0x06;
-    assert_eq!(rt; hashes(&arp), [0, 0, 0]);
-    assert_eq!(rt; hashes(&[]), [0, 0, 0]);
-    Ok(())
+    same(&rt, hashes(&arp), [0, 0, 0]);
+    same(&rt, hashes(&[]), [0, 0, 0]);
 }

@@ -4,4 +4,4 @@ use Rattle.vg_report.proofs.LawfulExamples.{two_of_three_sent_lawful}
 use Rattle.vg_tests.proofs.report.a_report_of_three_packets.Goals as goal
 
 pub write_report-requires : goal.write_report-requires
-write_report-requires g c = subst IsLawful (sym c.in_ok-report.ensures) two_of_three_sent_lawful
+write_report-requires g c = subst IsLawful (sym c.two_of_three-report.ensures) two_of_three_sent_lawful
