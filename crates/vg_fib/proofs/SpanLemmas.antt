@@ -2,8 +2,9 @@
 use Rattle.std.proofs.Common.{◌≡◌, ℕ, ◌+◌, ◌-◌, ◌*◌, ◌/◌, ◌%◌, ◌^◌, ◌<◌, ◌≤◌, true, false, refl, sym, ◌∙◌, ap, subst, arith}
 use Rattle.std.proofs.Math.Nat.{div-add-mod}
 use Rattle.std.proofs.lemmas.Bool.{eqb-true, eq-eqb, false≢true}
-use Rattle.std.proofs.lemmas.Nat.{pow_pos, pow-add, mod-pow-add, div-add-mod', div-mul-add, row_fits, mod_below}
+use Rattle.std.proofs.lemmas.Nat.{pow_pos, mod-pow-add, div-add-mod', div-mul-add, mod_below}
 use Rattle.std.specs.Prelude.{if◌then◌else◌}
+use Rattle.vg_model.proofs.PowerLemmas.{powers, block_fits}
 use Rattle.vg_model.specs.declared.routes.Prefix.{Prefix}
 use Rattle.vg_model.specs.Route.{PrefixKind, covers_of}
 use Rattle.vg_fib.proofs.PrefixLemmas.{ArePrefixes}
@@ -62,18 +63,6 @@ split x w j k e whole =
     let low : x % 2 ^ k ≡ 0 = omega arith in
     let high : (x / 2 ^ k % 2 ^ j) * 2 ^ k ≡ 0 = omega arith in
     (low, grind (arith, pow_pos k, high))
-
--- a power of two is a product of two
-powers : (w j k : ℕ) → w ≡ j + k → 2 ^ w ≡ 2 ^ j * 2 ^ k
-powers w j k e = ap (λ w. 2 ^ w) e ∙ pow-add 2 j k
-
--- the block of a multiple doesn't reach over the next higher power of two
-block_fits : (x w j k : ℕ) → w ≡ j + k → x % 2 ^ k ≡ 0 → x % 2 ^ w + 2 ^ k ≤ 2 ^ w
-block_fits x w j k e whole =
-    let at : x % 2 ^ w ≡ (x / 2 ^ k % 2 ^ j) * 2 ^ k + x % 2 ^ k = ap (λ w. x % 2 ^ w) e ∙ mod-pow-add x j k in
-    let row : (x / 2 ^ k % 2 ^ j) * 2 ^ k + 2 ^ k ≤ 2 ^ j * 2 ^ k =
-    row_fits (x / 2 ^ k % 2 ^ j) (2 ^ k) (2 ^ j) (2 ^ k) (mod_below (x / 2 ^ k) (2 ^ j) (pow_pos j)) (omega arith) in
-    omega (arith, at, row, powers w j k e, whole)
 
 -- where a prefix of at most 16 bits lies in the first level
 pub record IsShort (address size count : ℕ) : Type 0 where

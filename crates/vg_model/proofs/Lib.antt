@@ -18,5 +18,6 @@ pub mod LegEnds
 pub mod StartValid
 pub mod KindTable
 pub mod KindLaws
+pub mod PowerLemmas
 pub mod Rewrites
 pub mod Arcs

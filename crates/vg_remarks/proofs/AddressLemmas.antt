@@ -4,22 +4,11 @@ use Rattle.std.specs.Prelude.{◌^◌, ◌==◌, ◌&&◌, ◌||◌, nat_le, nat
 use Rattle.std.proofs.Math.Nat.{div-div-eq-div-mul}
 use Rattle.std.proofs.lemmas.Bool.{cases_lt, lt-ltb, leb-true, eqb-true, false≢true}
 use Rattle.std.proofs.lemmas.Map.Views.{any-filter_same}
-use Rattle.std.proofs.lemmas.Nat.{pow_pos, pow-add, mod-pow-add, row_fits, mod_below}
+use Rattle.std.proofs.lemmas.Nat.{pow_pos, mod-pow-add}
+use Rattle.vg_model.proofs.PowerLemmas.{powers, block_fits}
 use Rattle.vg_model.specs.declared.routes.Prefix.{Prefix}
 use Rattle.vg_model.specs.Route.{covers_of, ip4}
 use Rattle.vg_remarks.specs.Addresses.{is_network, last_of, is_multicast, is_directed, is_led, has_group, is_special, may_be_special}
-
--- a power of two is a product of two
-powers : (w j k : ℕ) → w ≡ j + k → 2 ^ w ≡ 2 ^ j * 2 ^ k
-powers w j k e = ap (λ w. 2 ^ w) e ∙ pow-add 2 j k
-
--- the block of a multiple doesn't reach over the next higher power of two
-block_fits : (x w j k : ℕ) → w ≡ j + k → x % 2 ^ k ≡ 0 → x % 2 ^ w + 2 ^ k ≤ 2 ^ w
-block_fits x w j k e whole =
-    let at : x % 2 ^ w ≡ (x / 2 ^ k % 2 ^ j) * 2 ^ k + x % 2 ^ k = ap (λ w. x % 2 ^ w) e ∙ mod-pow-add x j k in
-    let row : (x / 2 ^ k % 2 ^ j) * 2 ^ k + 2 ^ k ≤ 2 ^ j * 2 ^ k =
-    row_fits (x / 2 ^ k % 2 ^ j) (2 ^ k) (2 ^ j) (2 ^ k) (mod_below (x / 2 ^ k) (2 ^ j) (pow_pos j)) (omega arith) in
-    omega (arith, at, row, powers w j k e, whole)
 
 -- the last address of a prefix has 32 bits
 pub last_fits : (addr len : ℕ) → len ≤ 32 → addr < 4294967296 → addr % 2 ^ (32 - len) ≡ 0 → addr + (2 ^ (32 - len) - 1) < 4294967296

@@ -94,6 +94,7 @@ impl Incoming {
         requires { self.waits ≡ None }
         ensures ring { rx_ring result ≡ self.ring }
         ensures taken { taken result ≡ self.taken }
+        ensures trail { rx_trail result ≡ self.trail }
     {
         self.ring
     }
