@@ -1,20 +1,15 @@
--- For `addresses`: the last address of a prefix, and what is known of prefixes.
-use Rattle.std.proofs.Common.{◌≡◌, ◌≢◌, ℕ, ◌+◌, ◌-◌, ◌*◌, ◌/◌, ◌%◌, ◌<◌, ◌≤◌, Bool, true, false, List, [], ◌∷◌, refl, sym, ap, ◌∙◌, inl, inr, arith}
-use Rattle.std.specs.Prelude.{◌^◌, ◌==◌, ◌&&◌, ◌||◌, nat_le, nat_lt, filter}
+-- For `addresses`: what is known of prefixes.
+use Rattle.std.proofs.Common.{◌≡◌, ◌≢◌, ℕ, ◌+◌, ◌-◌, ◌*◌, ◌/◌, ◌%◌, ◌≤◌, Bool, true, false, List, [], ◌∷◌, refl, sym, ap, ◌∙◌, inl, inr, arith}
+use Rattle.std.specs.Prelude.{◌^◌, ◌==◌, ◌&&◌, ◌||◌, cond, nat_le, nat_lt, filter}
+use Rattle.std.specs.List.{list_any}
 use Rattle.std.proofs.Math.Nat.{div-div-eq-div-mul}
 use Rattle.std.proofs.lemmas.Bool.{cases_lt, lt-ltb, leb-true, eqb-true, false≢true}
 use Rattle.std.proofs.lemmas.Map.Views.{any-filter_same}
 use Rattle.std.proofs.lemmas.Nat.{pow_pos, mod-pow-add}
-use Rattle.vg_model.proofs.PowerLemmas.{powers, block_fits}
+use Rattle.vg_model.proofs.PowerLemmas.{powers}
 use Rattle.vg_model.specs.declared.routes.Prefix.{Prefix}
 use Rattle.vg_model.specs.Route.{covers_of, ip4}
 use Rattle.vg_remarks.specs.Addresses.{is_network, last_of, is_multicast, is_directed, is_led, has_group, is_special, may_be_special}
-
--- the last address of a prefix has 32 bits
-pub last_fits : (addr len : ℕ) → len ≤ 32 → addr < 4294967296 → addr % 2 ^ (32 - len) ≡ 0 → addr + (2 ^ (32 - len) - 1) < 4294967296
-last_fits addr len few small whole =
-    let fits : addr % 2 ^ 32 + 2 ^ (32 - len) ≤ 2 ^ 32 = block_fits addr 32 len (32 - len) (omega arith) whole in
-    omega (arith, fits, pow_pos (32 - len))
 
 -- what two addresses have in common in their first bits they have in the first eight of them
 same_byte : (x y len : ℕ) → 8 ≤ len → len ≤ 32 → x / 2 ^ (32 - len) ≡ y / 2 ^ (32 - len) → x / 2 ^ 24 ≡ y / 2 ^ 24
@@ -45,10 +40,19 @@ both : (a b : Bool) → (a && b) ≡ true → (a ≡ true) × (b ≡ true)
 both true b e = (refl, e)
 both false b e = absurd (false≢true e)
 
-pub group_special : (led : List Prefix) (address : ℕ) → is_special (address / 2 ^ 24) ≡ true → has_group (filter may_be_special led) address ≡ has_group led address
-group_special led address special =
-    any-filter_same (λ prefix. is_multicast prefix && covers_of ip4 prefix address) may_be_special true
-    (λ prefix group. covering prefix address special (both (is_multicast prefix) (covers_of ip4 prefix address) group).1) led
+-- of elements those that pass one test are asked for another
+any_of_filtered : {X : Type 0} (p q : X → Bool) (xs : List X) → list_any p (filter q xs) ≡ list_any (λ x. q x && p x) xs
+any_of_filtered p q [] = refl
+any_of_filtered {X} p q (x ∷ xs) = first (q x) (any_of_filtered p q xs)
+  where
+    first : (b : Bool) → list_any p (filter q xs) ≡ list_any (λ (x : X). q x && p x) xs
+        → list_any p (cond b (x ∷ filter q xs) (filter q xs)) ≡ ((b && p x) || list_any (λ (x : X). q x && p x) xs)
+    first true rest = ap (λ r. p x || r) rest
+    first false rest = rest
+
+-- a group has a route where one of the prefixes of multicast addresses alone covers it
+pub group_led : (led : List Prefix) (address : ℕ) → is_led (filter is_multicast led) address ≡ has_group led address
+group_led led address = any_of_filtered (λ prefix. covers_of ip4 prefix address) is_multicast led
 
 -- the last address of a network ends with two bits that are set
 last_ends : (addr len : ℕ) → len ≤ 30 → addr % 2 ^ (32 - len) ≡ 0 → (addr + (2 ^ (32 - len) - 1)) % 4 ≡ 3

@@ -1,4 +1,5 @@
 pub mod AddressLemmas
 pub mod FoundLemmas
 pub mod PacketLemmas
+pub mod PrefixLemmas
 pub mod StatementLemmas

@@ -1,6 +1,7 @@
 -- IPv4 addresses that a router does not forward to (RFC 1812, sections 5.3.5.1, 5.3.7 and 5.3.10; RFC 2644).
-use Rattle.std.specs.Prelude.{◌≡◌, ℕ, ◌+◌, ◌-◌, ◌/◌, ◌^◌, Bool, not, ◌&&◌, ◌||◌, ◌==◌, nat_lt, nat_le, List, length, filter, Option, Some, None, if◌then◌else◌}
+use Rattle.std.specs.Prelude.{◌≡◌, ℕ, ◌+◌, ◌-◌, ◌/◌, ◌^◌, Bool, true, not, ◌&&◌, ◌||◌, ◌==◌, nat_lt, nat_le, List, length, filter, Option, Some, None, if◌then◌else◌}
 use Rattle.std.specs.List.{list_any}
+use Rattle.std.specs.List.Sorted.{IsNonDecreasingBy}
 use Rattle.std.specs.BTreeSet.{contains_by}
 use Rattle.std.specs.Ordering.{nat_cmp}
 use Rattle.vg_model.specs.Bytes.{number16_at, number32_at}
@@ -9,6 +10,7 @@ use Rattle.vg_model.specs.declared.routes.Prefix.{Prefix}
 use Rattle.vg_remarks.specs.declared.addresses.Class.{Class}
 use Rattle.vg_remarks.specs.declared.addresses.Class.TheVariants as classes
 use Rattle.vg_remarks.specs.declared.addresses.Known.{Known}
+use Rattle.vg_remarks.specs.declared.prefixes.AddressSet.{AddressSet}
 
 -- ---- prefixes
 
@@ -70,6 +72,21 @@ destination frame =
 
 -- ---- what is kept of prefixes
 
+-- a prefix ends behind the last of others, or there are none
+abbrev pub ends_behind : Prefix → Option Prefix → Bool
+ends_behind prefix None = true
+ends_behind prefix (Some last) = nat_lt (last_of last) (last_of prefix)
+
+-- kept prefixes cover what some prefixes cover; of two kept ones the later one begins no earlier, and ends no earlier
+pub record IsCover (prefixes kept : List Prefix) : Type 0 where
+  pub begins : IsNonDecreasingBy (λ (p : Prefix). p.addr) kept
+  pub ends : IsNonDecreasingBy last_of kept
+  pub same : (address : ℕ) → is_led kept address ≡ is_led prefixes address
+
+-- the addresses that some prefixes cover
+abbrev pub IsSetOf : List Prefix → AddressSet → Type 0
+IsSetOf prefixes addresses = IsCover prefixes addresses.prefixes.items
+
 -- a prefix that may cover an address that is of a class wherever it occurs
 abbrev pub may_be_special : Prefix → Bool
 may_be_special prefix = nat_lt prefix.len 8 || is_special (prefix.addr / 2 ^ 24)
@@ -77,4 +94,5 @@ may_be_special prefix = nat_lt prefix.len 8 || is_special (prefix.addr / 2 ^ 24)
 -- what is known of the prefixes that routes lead to neighbors
 pub record IsKnown (led : List Prefix) (known : Known) : Type 0 where
   pub directed : (address : ℕ) → contains_by (nat_cmp address) known.lasts ≡ is_directed led address
-  pub special : known.special.items ≡ filter may_be_special led
+  pub special : IsSetOf (filter may_be_special led) known.special
+  pub groups : IsSetOf (filter is_multicast led) known.groups

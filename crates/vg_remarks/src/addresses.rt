@@ -1,11 +1,11 @@
 //! IPv4 addresses that a router does not forward to (RFC 1812, RFC 2644).
-ghost use Rattle.std.specs.Prelude.{◌≡◌, ◌==◌, ◌&&◌, ◌||◌, ◌/◌, ◌^◌, ℕ, true, List, [], ◌∷◌, ◌++◌, IfOk, OnOk, filter};
+ghost use Rattle.std.specs.Prelude.{◌≡◌, ◌==◌, ◌&&◌, ◌||◌, ◌/◌, ◌^◌, ℕ, true, List, IfOk, OnOk, filter};
 ghost use Rattle.std.specs.BTreeSet.{contains_by};
 ghost use Rattle.std.specs.Ordering.{nat_cmp};
 ghost use Rattle.vg_model.specs.declared.routes.Prefix.{Prefix as PrefixValue};
-ghost use Rattle.vg_model.specs.Route.{covers_of, ip4};
-ghost use Rattle.vg_remarks.specs.Addresses.{class_of, destination as destination_of, has_group, is_directed as directed, is_led, is_multicast as multicast, is_network as network, is_special as special, last_of, may_be_special as may_cover_special, special_class as class_everywhere, IsKnown};
+ghost use Rattle.vg_remarks.specs.Addresses.{class_of, destination as destination_of, has_group, is_directed as directed, is_led, is_multicast as multicast, is_network as network, is_special as special, last_of, may_be_special as may_cover_special, special_class as class_everywhere, IsKnown, IsSetOf};
 
+use crate::prefixes::{AddressSet, last_address};
 use std::alloc::{AllocError, Global};
 use std::collections::BTreeSet;
 use vg_model::Prefix;
@@ -33,8 +33,10 @@ pub enum Class {
 pub struct Known {
     // The last address of each that may be a network's.
     lasts: BTreeSet<u32>,
-    // Those that may cover an address which is of a class wherever it occurs.
-    special: Vec<Prefix>,
+    // The addresses of those that may cover one which is of a class wherever it occurs.
+    special: AddressSet,
+    // The addresses of those of multicast addresses alone.
+    groups: AddressSet,
 }
 
 // Whether a prefix may be that of a network: 1 to 30 bits.
@@ -44,27 +46,11 @@ fn is_network(prefix: &Prefix) -> bool
     1 <= prefix.len && prefix.len <= 30
 }
 
-// The last address of a prefix.
-fn last_address(prefix: &Prefix) -> u32
-    ensures { result ≡ last_of prefix.now }
-{
-    let count = 1u64 << (32 - prefix.len);
-    (u64::from(prefix.addr) + (count - 1)) as u32
-}
-
 // Whether a prefix is one of multicast addresses alone.
 fn is_multicast(prefix: &Prefix) -> bool
     ensures { result ≡ multicast prefix.now }
 {
     4 <= prefix.len && prefix.addr >> 28 == 14
-}
-
-// Whether a prefix covers an address.
-fn covers(prefix: &Prefix, address: u32) -> bool
-    ensures { result ≡ covers_of ip4 prefix.now address }
-{
-    let behind = 32 - u64::from(prefix.len);
-    u64::from(prefix.addr) >> behind == u64::from(address) >> behind
 }
 
 // Puts the last address of a prefix to others, where it may be a network's.
@@ -91,35 +77,20 @@ fn may_be_special(prefix: &Prefix) -> bool
     prefix.len < 8 || is_special(prefix.addr >> 24)
 }
 
-// Puts a prefix behind others, where it may cover an address that is of a class wherever it occurs.
-fn add_special(prefixes: &mut Vec<Prefix>, prefix: &Prefix) -> Result<(), AllocError>
-    ensures { OnOk result (prefixes.new.items ≡ prefixes.old.items ++ filter may_cover_special (prefix.now ∷ [])) }
+// The addresses of the prefixes that may cover one which is of a class wherever it occurs.
+fn special_addresses(alloc: Global, led: &[Prefix]) -> Result<AddressSet, AllocError>
+    ensures { IfOk result (IsSetOf (filter may_cover_special led.now)) }
 {
-    if may_be_special(prefix) {
-        prefixes.push(*prefix)?;
-    }
-    Ok(())
+    let prefixes = led.iter().copied().filter(may_be_special).collect(alloc)?;
+    AddressSet::of(alloc, prefixes)
 }
 
-// Whether one of some prefixes covers an address.
-fn any_covers(prefixes: &[Prefix], address: u32) -> bool
-    ensures { result ≡ is_led prefixes.now address }
+// The addresses of the prefixes of multicast addresses alone.
+fn group_addresses(alloc: Global, led: &[Prefix]) -> Result<AddressSet, AllocError>
+    ensures { IfOk result (IsSetOf (filter multicast led.now)) }
 {
-    prefixes.iter().any(|prefix| covers(prefix, address))
-}
-
-// Whether a prefix is one of multicast addresses alone, and covers an address.
-fn covers_group(prefix: &Prefix, address: u32) -> bool
-    ensures { result ≡ (multicast prefix.now && covers_of ip4 prefix.now address) }
-{
-    is_multicast(prefix) && covers(prefix, address)
-}
-
-// Whether one of some prefixes, of multicast addresses alone, covers an address.
-fn any_group_covers(prefixes: &[Prefix], address: u32) -> bool
-    ensures { result ≡ has_group prefixes.now address }
-{
-    prefixes.iter().any(|prefix| covers_group(prefix, address))
+    let prefixes = led.iter().copied().filter(is_multicast).collect(alloc)?;
+    AddressSet::of(alloc, prefixes)
 }
 
 // The class of an address whose first byte is one of those.
@@ -147,12 +118,14 @@ impl Known {
         ensures { IfOk result (IsKnown led.now) }
     {
         let mut lasts = BTreeSet::new(alloc);
-        let mut special = Vec::new(alloc);
         for prefix in led {
             add_last(&mut lasts, prefix)?;
-            add_special(&mut special, prefix)?;
         }
-        Ok(Known { lasts, special })
+        Ok(Known {
+            lasts,
+            special: special_addresses(alloc, led)?,
+            groups: group_addresses(alloc, led)?,
+        })
     }
 
     // Whether an address is the last one of a prefix that may be a network's. Such a prefix has at most 30 bits, so the last two of that address
@@ -171,15 +144,14 @@ impl Known {
         requires { special (address / 2 ^ 24) ≡ true }
         ensures { (led : List PrefixValue) → IsKnown led self.now → result ≡ is_led led address }
     {
-        any_covers(self.special.as_slice(), address)
+        self.special.contains(address)
     }
 
-    // Whether one of the prefixes, of multicast addresses alone, covers this address, which is of a class wherever it occurs.
+    // Whether one of the prefixes, of multicast addresses alone, covers this address.
     fn has_group_for(&self, address: u32) -> bool
-        requires { special (address / 2 ^ 24) ≡ true }
         ensures { (led : List PrefixValue) → IsKnown led self.now → result ≡ has_group led address }
     {
-        any_group_covers(self.special.as_slice(), address)
+        self.groups.contains(address)
     }
 
     /// Of which class an address is that a router does not forward to, though routes lead it to neighbors.

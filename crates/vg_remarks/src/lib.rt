@@ -3,7 +3,7 @@
 //! [`remarks_on`] finds them, by the capture, the script and the report alone; [`tell`] writes a sentence for each to the standard error, in a
 //! fixed order.
 //!
-//! In which order to read: `found`, `statements`, `addresses`, `late`, `packets`, `finding`; then `telling`.
+//! In which order to read: `found`, `statements`, `prefixes`, `addresses`, `late`, `packets`, `finding`; then `telling`.
 #![tactic(auto)]
 
 pub mod addresses;
@@ -11,6 +11,7 @@ pub mod finding;
 pub mod found;
 pub mod late;
 pub mod packets;
+mod prefixes;
 pub mod statements;
 mod telling;
 

@@ -1,8 +1,8 @@
 -- For the cast in `last_address`: the last address has 32 bits.
 use Rattle.std.proofs.Common.{◌-◌, arith}
 use Rattle.std.proofs.lemmas.Nat.{one_shl}
-use Rattle.vg_remarks.proofs.AddressLemmas.{last_fits}
-use Rattle.vg_remarks.proofs.addresses.last_address.Goals as goal
+use Rattle.vg_remarks.proofs.PrefixLemmas.{last_fits}
+use Rattle.vg_remarks.proofs.prefixes.last_address.Goals as goal
 
 pub overflow_cast-result : goal.overflow_cast-result
 overflow_cast-result c =
