@@ -196,3 +196,63 @@ fn filters_do_nothing_where_no_packet_comes(rt: HostRuntime) {
     let found = remarked(&rt, alloc, script, to, BOTH, false);
     assert!(rt; found.filters.count == 2 && found.filters.first == Some(7));
 }
+
+/// A script of 4,096 routes: each leads 16 addresses of class E to a neighbor, the first of them 240.0.1.0, and each begins 256 behind the one before.
+fn many_routes(rt: &impl Abort, alloc: Global) -> Vec<u8> {
+    let neighbor = b"adjacency east interface pg0 dst 02:00:00:00:00:09\n";
+    let mut text = Vec::from_slice(alloc, neighbor).expect(rt, "memory");
+    for number in 0..4096_u16 {
+        let [high, low] = (4096 - number).to_be_bytes();
+        let line = format!(in alloc; "route 240.{high}.{low}.0/28 via east\n").expect(rt, "memory");
+        text.extend_from_slice(line.as_str().as_bytes())
+            .expect(rt, "memory");
+    }
+    text
+}
+
+/// As many packets as may be, each to the address 16 behind that of the one before, the first to 240.0.0.8.
+fn many_packets(rt: &impl Abort, alloc: Global) -> Packets {
+    let mut packets = Vec::new(alloc);
+    for number in 0..65_536_u32 {
+        let to = 0xf000_0008 + 16 * number;
+        packets
+            .push(packet(0, frame(rt, alloc, to.to_be_bytes(), false)))
+            .expect(rt, "memory");
+    }
+    assert!(rt; packets.len() == 65_536);
+    Packets::of(alloc, packets.as_slice()).expect(rt, "memory")
+}
+
+/// The report of a run that transmits all of them.
+fn many_lines(rt: &impl Abort, alloc: Global) -> Vec<u8> {
+    let head = b"vgd report 1\nworkers 1\nbuffers 4096\ngenerations 1\npackets 65536\ninterface 0 pg0 tx 0\nnode 0 hand 0\n";
+    let mut text = Vec::from_slice(alloc, head).expect(rt, "memory");
+    for number in 0..65_536_u32 {
+        let line = format!(in alloc; "packet {number} 0:0 tx pg0\n").expect(rt, "memory");
+        text.extend_from_slice(line.as_str().as_bytes())
+            .expect(rt, "memory");
+    }
+    text.extend_from_slice(b"end\n").expect(rt, "memory");
+    text
+}
+
+// Of 16 packets one has a destination that a route covers, from the 17th packet on.
+#[test]
+fn many_destinations_are_looked_up_in_many_routes(rt: HostRuntime) {
+    let alloc = rt.alloc();
+    let capture = Capture {
+        nanos: false,
+        snaplen: 262_144,
+        packets: many_packets(&rt, alloc),
+    };
+    let script = parse_script(alloc, many_routes(&rt, alloc).as_slice()).expect(&rt, "a script");
+    let report = read_report(alloc, many_lines(&rt, alloc).as_slice()).expect(&rt, "a report");
+    assert!(rt; report.packets.len() == capture.packets.len());
+    let found = remarks_on(alloc, &capture, &script, &report).expect(&rt, "memory");
+    let wanted = Unforwarded {
+        number: 16,
+        address: number(address(240, 0, 1, 8)),
+        class: Class::Reserved,
+    };
+    assert!(rt; found.unforwarded.count == 4095 && found.unforwarded.first == Some(wanted));
+}
