@@ -1,0 +1,4 @@
+pub mod FindingLemmas
+pub mod RecordLemmas
+pub mod SentLemmas
+pub mod WantedLemmas
