@@ -72,16 +72,51 @@ pub fn report(
     ))
 }
 
-/// What is saved and printed of a run, and what is remarked of it: nothing where memory ran out for that.
+/// What is saved and printed of a run, and what is remarked of it.
 #[derive(Drop)]
 pub struct Output {
+    /// The savefile of the packets that were transmitted.
     pub tx: Bytes,
+    /// The text of the report.
     pub text: Bytes,
+    /// What is remarked of the run; nothing where memory ran out for it.
     pub remarks: Option<Remarks>,
 }
 
+// The text of the report, and what is remarked of a run of this plan by the report: one thread makes the first while another makes the second.
+fn text_and_remarks<R: Threads>(
+    rt: &R,
+    alloc: Global,
+    plan: &Plan,
+    capture: &Capture,
+    report: &Report,
+) -> Result<(Bytes, Option<Remarks>), Memory>
+    requires report { IsLawful report.now }
+    requires packets { length report.now.packets ≡ length capture.now.packets }
+    ensures text { IfOk result (λ made. made.0 ≡ text report.now) }
+    ensures remarks { IfOk result (λ made. IfSome made.1 (AreRemarks capture.now plan.now.script report.now)) }
+{
+    let (text, remarks) = join(
+        rt,
+        move || -> Result<Bytes, Memory>
+            requires { IsLawful report.now }
+            ensures { IfOk result (λ bytes. bytes ≡ text report.entry.now) }
+        { write_report(alloc, report) },
+        move || -> Result<Remarks, AllocError>
+            requires { length report.now.packets ≡ length capture.now.packets }
+            ensures { IfOk result (AreRemarks capture.entry.now plan.entry.now.script report.entry.now) }
+        { remarks_on(alloc, capture, plan.script(), report) },
+    );
+    let text = text?;
+    Ok((text, remarks.ok()))
+}
+
 /// The savefile of the packets that were transmitted of a capture, the text of the report, and what is remarked of a run of this plan by the
-/// report: one thread makes the first while another makes the others.
+/// report: a thread each makes them, where threads can be made.
+///
+/// # Errors
+///
+/// [`Memory`] where memory ran out for the savefile or the text.
 pub fn write_output<R: Threads>(
     rt: &R,
     alloc: Global,
@@ -106,13 +141,9 @@ pub fn write_output<R: Threads>(
         move || -> Result<(Bytes, Option<Remarks>), Memory>
             requires report { IsLawful report.now }
             requires packets { length report.now.packets ≡ length capture.now.packets }
-            ensures text { IfOk result (λ said. said.0 ≡ text report.entry.now) }
-            ensures remarks { IfOk result (λ said. IfSome said.1 (AreRemarks capture.entry.now plan.entry.now.script report.entry.now)) }
-        {
-            let text = write_report(alloc, report)?;
-            let remarks = remarks_on(alloc, capture, plan.script(), report);
-            Ok((text, remarks.ok()))
-        },
+            ensures text { IfOk result (λ made. made.0 ≡ text report.entry.now) }
+            ensures remarks { IfOk result (λ made. IfSome made.1 (AreRemarks capture.entry.now plan.entry.now.script report.entry.now)) }
+        { text_and_remarks(rt, alloc, plan, capture, report) },
     );
     let Ok(tx) = tx else {
         return Err(Memory);
