@@ -1,6 +1,7 @@
 //! Tests of the barrier.
 ghost use Rattle.std.specs.Prelude.{◌≡◌, ◌+◌, ◌*◌};
 
+use crate::checks::same;
 use std::test::Fail;
 use vg_barrier::{Barrier, Check, Cleared, Parcel, Parking, Words};
 
@@ -85,9 +86,9 @@ fn two_workers_park_and_run_with_renewed_parcels(rt: HostRuntime) -> Result<(), 
     let Some(first) = workers.pop() else {
         panic!(rt; "no worker 0")
     };
-    assert_eq!(rt; parts.main.stamp(), 0);
-    assert_eq!(rt; first.stamp(), 0);
-    assert_eq!(rt; first.parcel().limit, 2);
+    same(&rt, parts.main.stamp(), 0);
+    same(&rt, first.stamp(), 0);
+    same(&rt, first.parcel().limit, 2);
 
     let asked = parts.main.ask(&barrier);
     let Check::Parked(first) = first.check(&barrier) else {
@@ -96,7 +97,7 @@ fn two_workers_park_and_run_with_renewed_parcels(rt: HostRuntime) -> Result<(), 
     let Parking::Wait { asked, seen } = asked.poll(&barrier) else {
         panic!(rt; "main holds before worker 1 is parked")
     };
-    assert_eq!(rt; seen, 1);
+    same(&rt, seen, 1);
     let Check::Parked(first) = first.poll(&barrier) else {
         panic!(rt; "worker 0 leaves before the release")
     };
@@ -107,45 +108,46 @@ fn two_workers_park_and_run_with_renewed_parcels(rt: HostRuntime) -> Result<(), 
         panic!(rt; "main doesn't hold")
     };
 
-    assert_eq!(rt; held.parcel(0).next, 2);
-    assert_eq!(rt; held.parcel(1).next, 3);
+    same(&rt, held.parcel(0).next, 2);
+    same(&rt, held.parcel(1).next, 3);
     renew(held.parcel_mut(0));
     renew(held.parcel_mut(1));
     let clearing = held.release(&barrier);
     let Check::Run(first) = first.poll(&barrier) else {
         panic!(rt; "worker 0 is parked")
     };
-    assert_eq!(rt; first.stamp(), 1);
-    assert_eq!(rt; first.parcel().generation, 1);
-    assert_eq!(rt; first.parcel().next, 2);
+    same(&rt, first.stamp(), 1);
+    same(&rt, first.parcel().generation, 1);
+    same(&rt, first.parcel().next, 2);
     let Cleared::Wait { clearing, seen } = clearing.poll(&barrier) else {
         panic!(rt; "main is idle before worker 1 has left")
     };
-    assert_eq!(rt; seen, 1);
+    same(&rt, seen, 1);
     let Check::Run(second) = second.poll(&barrier) else {
         panic!(rt; "worker 1 is parked")
     };
-    assert_eq!(rt; second.stamp(), 1);
+    same(&rt, second.stamp(), 1);
     let Check::Run(first) = first.check(&barrier) else {
         panic!(rt; "worker 0 parks unasked")
     };
-    assert_eq!(rt; first.parcel().limit, 4);
+    same(&rt, first.parcel().limit, 4);
     let Cleared::Idle(main) = clearing.poll(&barrier) else {
         panic!(rt; "main isn't idle")
     };
-    assert_eq!(rt; main.stamp(), 1);
+    same(&rt, main.stamp(), 1);
     let words = barrier.end(main);
-    assert_eq!(rt;
+    same(
+        &rt,
         words,
         Words {
             request: 2,
             arrivals: 0,
-            generation: 1
-        }
+            generation: 1,
+        },
     );
     let window = second.into_parcel();
-    assert_eq!(rt; window.generation, 1);
-    assert_eq!(rt; window.next, 3);
+    same(&rt, window.generation, 1);
+    same(&rt, window.next, 3);
     Ok(())
 }
 
@@ -161,13 +163,13 @@ fn threads_share_a_barrier_and_take_seats(rt: HostRuntime) -> Result<(), Fail> {
         panic!(rt; "no worker 0")
     };
     draw_to(worker.parcel_mut(), 3);
-    assert_eq!(rt; worker.parcel().next, 3);
+    same(&rt, worker.parcel().next, 3);
     let Check::Parked(_) = worker.check(&parts.barrier) else {
         panic!(rt; "worker 0 runs")
     };
     let Parking::All(held) = asked.poll(&parts.barrier) else {
         panic!(rt; "main doesn't hold")
     };
-    assert_eq!(rt; held.parcel(0).next, 3);
+    same(&rt, held.parcel(0).next, 3);
     Ok(())
 }

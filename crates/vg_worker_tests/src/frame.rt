@@ -2,23 +2,22 @@
 ghost use Rattle.std.specs.Prelude.{◌≡◌, ◌+◌, ◌^◌, ◌<◌, ◌≤◌, length};
 ghost use Rattle.vg_frame.specs.Pending.{pending_count, most_pending};
 
+use crate::checks::{differ, has_length, holds, same};
 use std::alloc::Global;
 use std::marker::Brand;
 use std::process::Abort;
 use std::sync::ledger::{Blank, Ledger};
-use std::test::Fail;
 use vg_frame::{BufferMemory, Frame, FrameStore};
 use vg_pool::{Pool, PoolLedger};
 
 #[test]
-fn a_frame_has_the_indexes_pushed(rt: HostRuntime) -> Result<(), Fail> {
+fn a_frame_has_the_indexes_pushed(rt: HostRuntime) {
     let mut frame = Frame::new();
-    assert_eq!(rt; frame.len(), 0);
+    has_length(&rt, frame.len(), 0);
     frame.push(7);
     frame.push(2303);
-    assert_eq!(rt; frame.len(), 2);
-    assert!(rt; frame.as_slice() == [7, 2303].as_slice());
-    Ok(())
+    has_length(&rt, frame.len(), 2);
+    holds(&rt, frame.as_slice() == [7, 2303].as_slice());
 }
 
 // Two buffers of a pool are placed and written, and one is lifted.
@@ -27,29 +26,28 @@ fn places_and_lifts<T: PoolLedger, G: Ledger, R: Abort>(
     alloc: Global,
     taken: Blank,
     given: Blank,
-) -> Result<(), Fail>
+)
     requires total { T.total ≡ 2 }
     requires taken { (taken.name ≡ T.name) × (taken.parts ≡ T.parts) × (taken.parts ≡ 1) }
     requires given { (given.name ≡ G.name) × (given.parts ≡ G.parts) × (given.parts ≡ 1) }
 {
-    let (mut pool, mut caches) = Pool::<T, G>::new(alloc, 2, 1, taken, given)?;
-    let mut cache = caches.pop().ok_or("a cache")?;
-    assert_eq!(rt; pool.take(2, &mut cache), 2);
-    let mut memory = BufferMemory::new(alloc)?;
-    let first = memory.place(cache.alloc(60).ok_or("a buffer")?);
-    let second = memory.place(cache.alloc(60).ok_or("another buffer")?);
-    assert!(rt; first != second);
+    let (mut pool, mut caches) = Pool::<T, G>::new(alloc, 2, 1, taken, given).expect(rt, "memory");
+    let mut cache = caches.pop().expect(rt, "a cache");
+    same(rt, pool.take(2, &mut cache), 2);
+    let mut memory = BufferMemory::new(alloc).expect(rt, "memory");
+    let first = memory.place(cache.alloc(60).expect(rt, "a buffer"));
+    let second = memory.place(cache.alloc(60).expect(rt, "another buffer"));
+    differ(rt, first, second);
     memory.get_mut(first).fill(1, b"one");
     memory.get_mut(second).fill(2, b"two");
-    assert!(rt; memory.get_mut(first).head() == b"one".as_slice());
+    holds(rt, memory.get_mut(first).head() == b"one".as_slice());
     let lifted = memory.lift(second);
-    assert_eq!(rt; lifted.number(), 2);
-    assert!(rt; lifted.head() == b"two".as_slice());
-    Ok(())
+    same(rt, lifted.number(), 2);
+    holds(rt, lifted.head() == b"two".as_slice());
 }
 
 #[test]
-fn buffers_are_found_under_the_index_of_their_place(rt: HostRuntime) -> Result<(), Fail> {
+fn buffers_are_found_under_the_index_of_their_place(rt: HostRuntime) {
     places_and_lifts::<Brand, Brand, HostRuntime>(&rt, rt.alloc(), Blank::new(1), Blank::new(1))
 }
 
@@ -67,45 +65,36 @@ fn put_all(store: &mut FrameStore, node: u16, first: u32, count: u32)
 }
 
 // The next frame is for this node, and has so many indexes, from `first` on.
-fn expect_frame<R: Abort>(
-    rt: &R,
-    store: &mut FrameStore,
-    node: u16,
-    first: u32,
-    count: usize,
-) -> Result<(), Fail>
+fn expect_frame<R: Abort>(rt: &R, store: &mut FrameStore, node: u16, first: u32, count: usize)
     requires { first < 2 ^ 16 }
 {
-    let (of, frame) = store.next_frame().ok_or("a frame")?;
-    assert_eq!(rt; of, node);
-    assert_eq!(rt; frame.len(), count);
+    let (of, frame) = store.next_frame().expect(rt, "a frame");
+    same(rt, of, node);
+    has_length(rt, frame.len(), count);
     for (place, index) in frame.as_slice().iter().enumerate() {
-        assert_eq!(rt; *index, first + place as u32);
+        same(rt, *index, first + place as u32);
     }
-    Ok(())
 }
 
 #[test]
-fn frames_come_by_node_and_the_oldest_first(rt: HostRuntime) -> Result<(), Fail> {
-    let mut store = FrameStore::new(rt.alloc(), 8)?;
+fn frames_come_by_node_and_the_oldest_first(rt: HostRuntime) {
+    let mut store = FrameStore::new(rt.alloc(), 8).expect(&rt, "memory");
     put_all(&mut store, 3, 0, 300);
     put_all(&mut store, 1, 5000, 5);
     put_all(&mut store, 3, 300, 300);
-    expect_frame(&rt, &mut store, 1, 5000, 5)?;
-    expect_frame(&rt, &mut store, 3, 0, 256)?;
-    expect_frame(&rt, &mut store, 3, 256, 256)?;
-    expect_frame(&rt, &mut store, 3, 512, 88)?;
-    assert!(rt; store.next_frame().is_none());
-    Ok(())
+    expect_frame(&rt, &mut store, 1, 5000, 5);
+    expect_frame(&rt, &mut store, 3, 0, 256);
+    expect_frame(&rt, &mut store, 3, 256, 256);
+    expect_frame(&rt, &mut store, 3, 512, 88);
+    holds(&rt, store.next_frame().is_none());
 }
 
 #[test]
-fn a_full_store_gives_nine_full_frames(rt: HostRuntime) -> Result<(), Fail> {
-    let mut store = FrameStore::new(rt.alloc(), 64)?;
+fn a_full_store_gives_nine_full_frames(rt: HostRuntime) {
+    let mut store = FrameStore::new(rt.alloc(), 64).expect(&rt, "memory");
     put_all(&mut store, 63, 0, 2304);
     for k in 0..9u32 {
-        expect_frame(&rt, &mut store, 63, 256 * k, 256)?;
+        expect_frame(&rt, &mut store, 63, 256 * k, 256);
     }
-    assert!(rt; store.next_frame().is_none());
-    Ok(())
+    holds(&rt, store.next_frame().is_none());
 }

@@ -1,7 +1,7 @@
 //! Tests of the crates that a worker is made of, a module for each, over the built libraries. They stand in a crate of tests alone, since a
 //! crate that has tests is proved twice.
 //!
-//! In which order to read: `pool` with `chains`, `frame`, `fork`, `nodes`, `counters`, `steps`, `ring`, `queue`, `barrier`, `hands`,
+//! In which order to read: `checks`, `pool` with `chains`, `frame`, `fork`, `nodes`, `counters`, `steps`, `ring`, `queue`, `barrier`, `hands`,
 //! `backlog`.
 #![tactic(auto)]
 
@@ -11,6 +11,8 @@ mod backlog;
 mod barrier;
 #[cfg(test)]
 mod chains;
+#[cfg(test)]
+mod checks;
 #[cfg(test)]
 mod counters;
 #[cfg(test)]

@@ -1,14 +1,14 @@
 //! Packets that are visited and dispatched at the nodes of small graphs.
-ghost use Rattle.std.specs.Prelude.{◌≡◌, ◌+◌, ◌<◌, ℕ, Some, IfOk, []};
+ghost use Rattle.std.specs.Prelude.{◌≡◌, ◌+◌, ◌<◌, ℕ, Some, []};
 ghost use Rattle.std.specs.Bool.{OnTrue};
 ghost use Rattle.vg_model.specs.Valid.{IsTarget};
 ghost use Rattle.vg_frame.specs.Placed.{IsLive, count};
 
+use crate::checks::{differ, has_length, holds, same};
 use std::alloc::Global;
 use std::marker::Brand;
 use std::process::Abort;
 use std::sync::ledger::{Blank, Ledger};
-use std::test::Fail;
 use vg_fib::{Fib, Fib6};
 use vg_fork::Fork;
 use vg_frame::{BufferMemory, Frame};
@@ -49,18 +49,18 @@ fn header(total: u8, ttl: u8, checksum: u16, to: [u8; 4]) -> [u8; 20] {
 }
 
 // A frame of so many bytes: an Ethernet header, an IPv4 header, and zeros.
-fn frame(alloc: Global, to: Mac, from: Mac, header: &[u8], len: usize) -> Result<Vec<u8>, Fail> {
-    let mut bytes = Vec::with_capacity(alloc, len)?;
-    bytes.extend_from_slice(&to.0)?;
-    bytes.extend_from_slice(&from.0)?;
-    bytes.extend_from_slice(&[0x08, 0x00])?;
-    bytes.extend_from_slice(header)?;
-    bytes.resize(len, 0)?;
-    Ok(bytes)
+fn frame(rt: &impl Abort, alloc: Global, to: Mac, from: Mac, header: &[u8], len: usize) -> Vec<u8> {
+    let mut bytes = Vec::with_capacity(alloc, len).expect(rt, "memory");
+    bytes.extend_from_slice(&to.0).expect(rt, "memory");
+    bytes.extend_from_slice(&from.0).expect(rt, "memory");
+    bytes.extend_from_slice(&[0x08, 0x00]).expect(rt, "memory");
+    bytes.extend_from_slice(header).expect(rt, "memory");
+    bytes.resize(len, 0).expect(rt, "memory");
+    bytes
 }
 
-fn name(text: &str) -> Result<Name, Fail> {
-    Ok(Name::of(text.as_bytes()).ok_or("no name")?)
+fn name(rt: &impl Abort, text: &str) -> Name {
+    Name::of(text.as_bytes()).expect(rt, "a name")
 }
 
 // Whether arcs may lead to a node of this kind.
@@ -72,8 +72,8 @@ fn is_target(kind: Kind) -> bool
 
 // The step of a visit at a node.
 fn visit(rt: &impl Abort, fork: &Fork, node: u16, buffer: &mut Buffer) -> Step {
-    assert!(rt; node < fork.nodes());
-    assert!(rt; is_target(fork.kind(node)));
+    holds(rt, node < fork.nodes());
+    holds(rt, is_target(fork.kind(node)));
     Ip4Kinds.visit(fork, node, buffer)
 }
 
@@ -85,52 +85,48 @@ fn dropped(node: u16, error: DropError) -> (u16, Step) {
 const SENT: (u16, Step) = (7, Step::Tx { interface: 0 });
 
 // A buffer of a pool of its own.
-fn taken_out<T: PoolLedger, G: Ledger>(
+fn taken_out<T: PoolLedger, G: Ledger, R: Abort>(
+    rt: &R,
     alloc: Global,
     taken: Blank,
     given: Blank,
-) -> Result<Buffer, Fail>
+) -> Buffer
     requires total { T.total ≡ 1 }
     requires taken { (taken.name ≡ T.name) × (taken.parts ≡ T.parts) × (taken.parts ≡ 1) }
     requires given { (given.name ≡ G.name) × (given.parts ≡ G.parts) × (given.parts ≡ 1) }
 {
-    let (mut pool, mut caches) = Pool::<T, G>::new(alloc, 1, 1, taken, given)?;
-    let mut cache = caches.pop().ok_or("a cache")?;
+    let (mut pool, mut caches) = Pool::<T, G>::new(alloc, 1, 1, taken, given).expect(rt, "memory");
+    let mut cache = caches.pop().expect(rt, "a cache");
     pool.take(1, &mut cache);
-    Ok(cache.alloc(60).ok_or("a buffer")?)
+    cache.alloc(60).expect(rt, "a buffer")
 }
 
-fn buffer(alloc: Global) -> Result<Buffer, Fail> {
-    taken_out::<Brand, Brand>(alloc, Blank::new(1), Blank::new(1))
+fn buffer<R: Abort>(rt: &R, alloc: Global) -> Buffer {
+    taken_out::<Brand, Brand, R>(rt, alloc, Blank::new(1), Blank::new(1))
 }
 
 // The packet of this number and frame, in a buffer of its own.
-fn received(rt: &impl Abort, alloc: Global, number: u32, frame: &[u8]) -> Result<Buffer, Fail>
-    ensures { IfOk result (λ buffer. buffer.legs ≡ []) }
+fn received(rt: &impl Abort, alloc: Global, number: u32, frame: &[u8]) -> Buffer
+    ensures { result.legs ≡ [] }
 {
-    assert!(rt; frame.len() <= 2048);
-    let mut buffer = buffer(alloc)?;
+    holds(rt, frame.len() <= 2048);
+    let mut buffer = buffer(rt, alloc);
     buffer.fill(number, frame);
-    Ok(buffer)
+    buffer
 }
 
 // Where a packet of this frame ends that goes from `ethernet-input` on: the node, and its last step; and the packet.
-fn end(
-    rt: &impl Abort,
-    alloc: Global,
-    fork: &Fork,
-    frame: &[u8],
-) -> Result<((u16, Step), Buffer), Fail> {
-    let mut buffer = received(rt, alloc, 7, frame)?;
+fn end(rt: &impl Abort, alloc: Global, fork: &Fork, frame: &[u8]) -> ((u16, Step), Buffer) {
+    let mut buffer = received(rt, alloc, 7, frame);
     buffer.add_leg(LEG);
     for node in 2..7 {
         let step = visit(rt, fork, node, &mut buffer);
         if step != (Step::Next { slot: 0 }) {
-            return Ok(((node, step), buffer));
+            return ((node, step), buffer);
         }
     }
     let step = visit(rt, fork, 7, &mut buffer);
-    Ok(((7, step), buffer))
+    ((7, step), buffer)
 }
 
 // Over one neighbor.
@@ -139,31 +135,34 @@ fn via(number: u16) -> RouteTo {
 }
 
 // The whole graph that a run starts from, with these routes.
-fn fork(alloc: Global, graph: &Graph, routes: &[(Prefix, RouteTo)]) -> Result<Fork, Fail> {
-    let mut fib = Fib::new(alloc)?;
+fn fork(rt: &impl Abort, alloc: Global, graph: &Graph, routes: &[(Prefix, RouteTo)]) -> Fork {
+    let mut fib = Fib::new(alloc).expect(rt, "memory");
     for (prefix, to) in routes {
-        fib.set(*prefix, *to)?;
+        fib.set(*prefix, *to).expect(rt, "a route");
     }
-    Ok(Fork::of(alloc, graph, &fib, &Fib6::new(alloc)?, 0)?)
+    let fib6 = Fib6::new(alloc).expect(rt, "memory");
+    Fork::of(alloc, graph, &fib, &fib6, 0).expect(rt, "memory")
 }
 
-fn set_adjacency(graph: &mut Graph, text: &str, interface: &str, mac: Mac) -> Result<(), Fail> {
-    graph.apply(&Edit::Adjacency {
-        name: name(text)?,
-        interface: name(interface)?,
-        mac,
-    })?;
-    Ok(())
+fn set_adjacency(rt: &impl Abort, graph: &mut Graph, text: &str, interface: &str, mac: Mac) {
+    graph
+        .apply(&Edit::Adjacency {
+            name: name(rt, text),
+            interface: name(rt, interface),
+            mac,
+        })
+        .expect(rt, "no refusal");
 }
 
 #[test]
-fn a_packet_leaves_over_the_longest_match(rt: HostRuntime) -> Result<(), Fail> {
+fn a_packet_leaves_over_the_longest_match(rt: HostRuntime) {
     let alloc = rt.alloc();
-    let mut graph = Graph::start(alloc)?;
+    let mut graph = Graph::start(alloc).expect(&rt, "memory");
     for (text, last) in [("a0", 0x00), ("a8", 0x08), ("a16", 0x16)] {
-        set_adjacency(&mut graph, text, "pg0", host(last))?;
+        set_adjacency(&rt, &mut graph, text, "pg0", host(last));
     }
     let fork = fork(
+        &rt,
         alloc,
         &graph,
         &[
@@ -177,33 +176,32 @@ fn a_packet_leaves_over_the_longest_match(rt: HostRuntime) -> Result<(), Fail> {
             ),
             (TEN_ONE, via(2)),
         ],
-    )?;
+    );
     let came = header(20, 64, 0xacd4, [10, 1, 2, 3]);
-    let frame_in = frame(alloc, PG0, host(1), &came, 34)?;
-    let (end, buffer) = end(&rt, alloc, &fork, frame_in.as_slice())?;
-    assert_eq!(rt; end, SENT);
+    let frame_in = frame(&rt, alloc, PG0, host(1), &came, 34);
+    let (end, buffer) = end(&rt, alloc, &fork, frame_in.as_slice());
+    same(&rt, end, SENT);
     let sent = header(20, 63, 0xadd4, [10, 1, 2, 3]);
-    let frame_out = frame(alloc, host(0x16), PG0, &sent, 34)?;
-    assert_eq!(rt; buffer.head(), frame_out.as_slice());
-    assert_eq!(rt; buffer.adjacency(), Some(2));
-    assert_eq!(rt; buffer.interface(), Some(0));
-    assert_eq!(rt; buffer.legs(), [LEG].as_slice());
-    Ok(())
+    let frame_out = frame(&rt, alloc, host(0x16), PG0, &sent, 34);
+    same(&rt, buffer.head(), frame_out.as_slice());
+    same(&rt, buffer.adjacency(), Some(2));
+    same(&rt, buffer.interface(), Some(0));
+    same(&rt, buffer.legs(), [LEG].as_slice());
 }
 
 // The graph of two neighbors, whose addresses end in 0x10 and 0x11.
-fn two_neighbors(alloc: Global) -> Result<Graph, Fail> {
-    let mut graph = Graph::start(alloc)?;
+fn two_neighbors(rt: &impl Abort, alloc: Global) -> Graph {
+    let mut graph = Graph::start(alloc).expect(rt, "memory");
     for (text, last) in [("e0", 0x10), ("e1", 0x11)] {
-        set_adjacency(&mut graph, text, "pg0", host(last))?;
+        set_adjacency(rt, &mut graph, text, "pg0", host(last));
     }
-    Ok(graph)
+    graph
 }
 
 #[test]
-fn a_hash_picks_one_of_the_neighbors_of_a_route(rt: HostRuntime) -> Result<(), Fail> {
+fn a_hash_picks_one_of_the_neighbors_of_a_route(rt: HostRuntime) {
     let alloc = rt.alloc();
-    let graph = two_neighbors(alloc)?;
+    let graph = two_neighbors(&rt, alloc);
     let mut tenth = [0; 16];
     tenth[9] = 1;
     // To 10.1.2.3 the hash is 0xcacbcbc9, whose eighth is 425294201, and to 10.1.2.11 the eighth is one less: their remainders
@@ -217,30 +215,33 @@ fn a_hash_picks_one_of_the_neighbors_of_a_route(rt: HostRuntime) -> Result<(), F
         ([0].as_slice(), 0x10, 0x10),
         ([1].as_slice(), 0x11, 0x11),
     ] {
-        let members = Members::of(members).ok_or("1 to 16")?;
-        let fork = fork(alloc, &graph, &[(TEN_ONE, RouteTo::Via(members))])?;
+        let members = Members::of(members).expect(&rt, "1 to 16");
+        let fork = fork(&rt, alloc, &graph, &[(TEN_ONE, RouteTo::Via(members))]);
         for (last, checksum, lowered, neighbor) in [
             (3, 0xacd4, 0xadd4, third),
             (11, 0xaccc, 0xadcc, eleventh),
         ] {
             let came = header(20, 64, checksum, [10, 1, 2, last]);
-            let frame_in = frame(alloc, PG0, host(1), &came, 34)?;
-            let (end, buffer) = end(&rt, alloc, &fork, frame_in.as_slice())?;
-            assert_eq!(rt; end, SENT);
+            let frame_in = frame(&rt, alloc, PG0, host(1), &came, 34);
+            let (end, buffer) = end(&rt, alloc, &fork, frame_in.as_slice());
+            same(&rt, end, SENT);
             let sent = header(20, 63, lowered, [10, 1, 2, last]);
-            let frame_out = frame(alloc, host(neighbor), PG0, &sent, 34)?;
-            assert_eq!(rt; buffer.head(), frame_out.as_slice(), "{members:?}");
+            let frame_out = frame(&rt, alloc, host(neighbor), PG0, &sent, 34);
+            same(
+                &rt,
+                (members, buffer.head()),
+                (members, frame_out.as_slice()),
+            );
         }
     }
-    Ok(())
 }
 
 #[test]
-fn kinds_of_other_sets_drop_what_comes(rt: HostRuntime) -> Result<(), Fail> {
+fn kinds_of_other_sets_drop_what_comes(rt: HostRuntime) {
     let alloc = rt.alloc();
     let id = VlanId { number: 100 };
     let came = header(20, 64, 0xacd4, [10, 1, 2, 3]);
-    let frame_in = frame(alloc, PG0, host(1), &came, 34)?;
+    let frame_in = frame(&rt, alloc, PG0, host(1), &came, 34);
     for kind in [
         Kind::EthernetDual,
         Kind::Ip6Input,
@@ -251,40 +252,45 @@ fn kinds_of_other_sets_drop_what_comes(rt: HostRuntime) -> Result<(), Fail> {
         Kind::Dot1qRewrite(id),
         Kind::CrossConnect(0),
     ] {
-        let mut graph = Graph::start(alloc)?;
-        graph.apply(&Edit::Node {
-            name: name("other")?,
-            kind,
-        })?;
-        let fork = fork(alloc, &graph, &[])?;
-        let mut buffer = received(&rt, alloc, 7, frame_in.as_slice())?;
+        let mut graph = Graph::start(alloc).expect(&rt, "memory");
+        graph
+            .apply(&Edit::Node {
+                name: name(&rt, "other"),
+                kind,
+            })
+            .expect(&rt, "no refusal");
+        let fork = fork(&rt, alloc, &graph, &[]);
+        let mut buffer = received(&rt, alloc, 7, frame_in.as_slice());
         let step = visit(&rt, &fork, 9, &mut buffer);
-        assert_eq!(rt; (9, step), dropped(9, DropError::Blackhole), "{kind:?}");
-        assert_eq!(rt; buffer.head(), frame_in.as_slice(), "{kind:?}");
-        assert_eq!(rt; (buffer.adjacency(), buffer.interface()), (None, None));
+        same(
+            &rt,
+            (kind, (9, step)),
+            (kind, dropped(9, DropError::Blackhole)),
+        );
+        same(&rt, (kind, buffer.head()), (kind, frame_in.as_slice()));
+        same(&rt, (buffer.adjacency(), buffer.interface()), (None, None));
     }
-    Ok(())
 }
 
 // The fork by which all packets go to one neighbor.
-fn east(alloc: Global) -> Result<Fork, Fail> {
-    let mut graph = Graph::start(alloc)?;
-    set_adjacency(&mut graph, "east", "pg0", host(9))?;
-    fork(alloc, &graph, &[(EVERYWHERE, via(0))])
+fn east(rt: &impl Abort, alloc: Global) -> Fork {
+    let mut graph = Graph::start(alloc).expect(rt, "memory");
+    set_adjacency(rt, &mut graph, "east", "pg0", host(9));
+    fork(rt, alloc, &graph, &[(EVERYWHERE, via(0))])
 }
 
 #[test]
-fn a_time_to_live_of_2_leaves_as_1(rt: HostRuntime) -> Result<(), Fail> {
+fn a_time_to_live_of_2_leaves_as_1(rt: HostRuntime) {
     let alloc = rt.alloc();
-    let fork = east(alloc)?;
+    let fork = east(&rt, alloc);
     for (ttl, checksum, expected) in [
         (1, 0xebd4, dropped(5, DropError::TtlExpired)),
         (0, 0xecd4, dropped(3, DropError::TtlZero)),
     ] {
         let came = header(20, ttl, checksum, [10, 1, 2, 3]);
-        let frame_in = frame(alloc, PG0, host(1), &came, 34)?;
-        let (end, _) = end(&rt, alloc, &fork, frame_in.as_slice())?;
-        assert_eq!(rt; end, expected);
+        let frame_in = frame(&rt, alloc, PG0, host(1), &came, 34);
+        let (end, _) = end(&rt, alloc, &fork, frame_in.as_slice());
+        same(&rt, end, expected);
     }
     let came = header(20, 2, 0xead4, [10, 1, 2, 3]);
     let sent = header(20, 1, 0xebd4, [10, 1, 2, 3]);
@@ -292,26 +298,18 @@ fn a_time_to_live_of_2_leaves_as_1(rt: HostRuntime) -> Result<(), Fail> {
 }
 
 // A frame of so many bytes with the first header leaves with the second.
-fn assert_sent(
-    rt: &impl Abort,
-    alloc: Global,
-    fork: &Fork,
-    came: &[u8],
-    sent: &[u8],
-    len: usize,
-) -> Result<(), Fail> {
-    let frame_in = frame(alloc, PG0, host(1), came, len)?;
-    let (end, buffer) = end(rt, alloc, fork, frame_in.as_slice())?;
-    assert_eq!(rt; end, SENT);
-    let frame_out = frame(alloc, host(9), PG0, sent, len)?;
-    assert_eq!(rt; buffer.head(), frame_out.as_slice());
-    Ok(())
+fn assert_sent(rt: &impl Abort, alloc: Global, fork: &Fork, came: &[u8], sent: &[u8], len: usize) {
+    let frame_in = frame(rt, alloc, PG0, host(1), came, len);
+    let (end, buffer) = end(rt, alloc, fork, frame_in.as_slice());
+    same(rt, end, SENT);
+    let frame_out = frame(rt, alloc, host(9), PG0, sent, len);
+    same(rt, buffer.head(), frame_out.as_slice());
 }
 
 #[test]
-fn checksums_padding_and_options_are_kept_right(rt: HostRuntime) -> Result<(), Fail> {
+fn checksums_padding_and_options_are_kept_right(rt: HostRuntime) {
     let alloc = rt.alloc();
-    let fork = east(alloc)?;
+    let fork = east(&rt, alloc);
     let mut full = header(20, 64, 0xffff, [10, 1, 2, 3]);
     full[4] = 0xac;
     full[5] = 0xd4;
@@ -319,42 +317,44 @@ fn checksums_padding_and_options_are_kept_right(rt: HostRuntime) -> Result<(), F
     full_sent[8] = 63;
     full_sent[10] = 0x01;
     full_sent[11] = 0x00;
-    assert_sent(&rt, alloc, &fork, &full, &full_sent, 34)?;
+    assert_sent(&rt, alloc, &fork, &full, &full_sent, 34);
     let padded = header(40, 64, 0xacc0, [10, 1, 2, 3]);
     let padded_sent = header(40, 63, 0xadc0, [10, 1, 2, 3]);
-    assert_sent(&rt, alloc, &fork, &padded, &padded_sent, 60)?;
+    assert_sent(&rt, alloc, &fork, &padded, &padded_sent, 60);
     let with_options = [
         0x46, 0, 0, 24, 0, 0, 0, 0, 64, 17, 0xa9, 0xcf, 192, 0, 2, 1, 10, 1, 2, 3, 1, 1, 1, 0,
     ];
     let mut options_sent = with_options;
     options_sent[8] = 63;
     options_sent[10] = 0xaa;
-    assert_sent(&rt, alloc, &fork, &with_options, &options_sent, 38)?;
+    assert_sent(&rt, alloc, &fork, &with_options, &options_sent, 38);
 
     // A datagram that is longer than its frame.
     let long = header(21, 64, 0xacd3, [10, 1, 2, 3]);
-    let frame_in = frame(alloc, PG0, host(1), &long, 34)?;
-    let (end, _) = end(&rt, alloc, &fork, frame_in.as_slice())?;
-    assert_eq!(rt; end, dropped(3, DropError::BadLength));
-    Ok(())
+    let frame_in = frame(&rt, alloc, PG0, host(1), &long, 34);
+    let (end, _) = end(&rt, alloc, &fork, frame_in.as_slice());
+    same(&rt, end, dropped(3, DropError::BadLength));
 }
 
 #[test]
-fn interfaces_filter_and_go_down(rt: HostRuntime) -> Result<(), Fail> {
+fn interfaces_filter_and_go_down(rt: HostRuntime) {
     let alloc = rt.alloc();
-    let mut graph = Graph::start(alloc)?;
+    let mut graph = Graph::start(alloc).expect(&rt, "memory");
     for (text, last, up) in [("pg0", 0, true), ("lan", 1, false)] {
-        graph.apply(&Edit::Interface {
-            name: name(text)?,
-            mac: Mac([0x02, 0xfe, 0, 0, 0, last]),
-            mtu: 100,
-            up,
-            filter: up,
-        })?;
+        graph
+            .apply(&Edit::Interface {
+                name: name(&rt, text),
+                mac: Mac([0x02, 0xfe, 0, 0, 0, last]),
+                mtu: 100,
+                up,
+                filter: up,
+            })
+            .expect(&rt, "no refusal");
     }
-    set_adjacency(&mut graph, "p", "pg0", host(5))?;
-    set_adjacency(&mut graph, "l", "lan", host(6))?;
+    set_adjacency(&rt, &mut graph, "p", "pg0", host(5));
+    set_adjacency(&rt, &mut graph, "l", "lan", host(6));
     let fork = fork(
+        &rt,
         alloc,
         &graph,
         &[
@@ -367,7 +367,7 @@ fn interfaces_filter_and_go_down(rt: HostRuntime) -> Result<(), Fail> {
                 via(1),
             ),
         ],
-    )?;
+    );
     for (to, header, len, expected) in [
         (
             host(0x77),
@@ -400,26 +400,20 @@ fn interfaces_filter_and_go_down(rt: HostRuntime) -> Result<(), Fail> {
             dropped(4, DropError::NoRoute),
         ),
     ] {
-        let frame_in = frame(alloc, to, host(1), &header, len)?;
-        let (end, _) = end(&rt, alloc, &fork, frame_in.as_slice())?;
-        assert_eq!(rt; end, expected);
+        let frame_in = frame(&rt, alloc, to, host(1), &header, len);
+        let (end, _) = end(&rt, alloc, &fork, frame_in.as_slice());
+        same(&rt, end, expected);
     }
-    Ok(())
 }
 
 // Places a packet of this frame.
-fn place(
-    rt: &impl Abort,
-    alloc: Global,
-    memory: &mut BufferMemory,
-    frame: &[u8],
-) -> Result<u32, Fail>
+fn place(rt: &impl Abort, alloc: Global, memory: &mut BufferMemory, frame: &[u8]) -> u32
     requires { count memory.old < 3 }
-    ensures placed { IfOk result (λ index. IsLive memory.new index) }
-    ensures kept { IfOk result (λ _. (other : ℕ) → IsLive memory.old other → IsLive memory.new other) }
-    ensures one { IfOk result (λ _. count memory.new ≡ count memory.old + 1) }
+    ensures placed { IsLive memory.new result }
+    ensures kept { (other : ℕ) → IsLive memory.old other → IsLive memory.new other }
+    ensures one { count memory.new ≡ count memory.old + 1 }
 {
-    Ok(memory.place(received(rt, alloc, 0, frame)?))
+    memory.place(received(rt, alloc, 0, frame))
 }
 
 // The three packets of these frames, dispatched at a node: their indexes, and the lists.
@@ -429,39 +423,42 @@ fn dispatched(
     fork: &Fork,
     node: u16,
     frames: [&[u8]; 3],
-) -> Result<([u32; 3], Sorted), Fail> {
-    assert!(rt; node < fork.nodes());
-    assert!(rt; is_target(fork.kind(node)));
-    let mut memory = BufferMemory::new(alloc)?;
+) -> ([u32; 3], Sorted) {
+    holds(rt, node < fork.nodes());
+    holds(rt, is_target(fork.kind(node)));
+    let mut memory = BufferMemory::new(alloc).expect(rt, "memory");
     let [first, second, third] = frames;
-    let first = place(rt, alloc, &mut memory, first)?;
-    let second = place(rt, alloc, &mut memory, second)?;
-    let third = place(rt, alloc, &mut memory, third)?;
-    assert!(rt; first != second);
-    assert!(rt; first != third);
-    assert!(rt; second != third);
+    let first = place(rt, alloc, &mut memory, first);
+    let second = place(rt, alloc, &mut memory, second);
+    let third = place(rt, alloc, &mut memory, third);
+    differ(rt, first, second);
+    differ(rt, first, third);
+    differ(rt, second, third);
     let mut frame = Frame::new();
     frame.push(first);
     frame.push(second);
     frame.push(third);
-    let mut out = Sorted::new(alloc)?;
+    let mut out = Sorted::new(alloc).expect(rt, "memory");
     dispatch_frame(&Ip4Kinds, fork, node, frame, &mut memory, &mut out);
-    Ok(([first, second, third], out))
+    ([first, second, third], out)
 }
 
 // The graph that a run starts from, with a node that hands packets over by their flow.
-fn with_handoff(alloc: Global) -> Result<Fork, Fail> {
-    let mut graph = Graph::start(alloc)?;
-    graph.apply(&Edit::Node {
-        name: name("h")?,
-        kind: Kind::WorkerHandoff(HashKind::Flow),
-    })?;
-    fork(alloc, &graph, &[])
+fn with_handoff(rt: &impl Abort, alloc: Global) -> Fork {
+    let mut graph = Graph::start(alloc).expect(rt, "memory");
+    graph
+        .apply(&Edit::Node {
+            name: name(rt, "h"),
+            kind: Kind::WorkerHandoff(HashKind::Flow),
+        })
+        .expect(rt, "no refusal");
+    fork(rt, alloc, &graph, &[])
 }
 
 // The frame of a datagram.
-fn whole(alloc: Global) -> Result<Vec<u8>, Fail> {
+fn whole(rt: &impl Abort, alloc: Global) -> Vec<u8> {
     frame(
+        rt,
         alloc,
         PG0,
         host(1),
@@ -474,59 +471,62 @@ fn whole(alloc: Global) -> Result<Vec<u8>, Fail> {
 const SHORT: &[u8] = &[0x02, 0xfe, 0, 0, 0, 0];
 
 #[test]
-fn packets_go_on_or_are_dropped_in_the_order_of_their_frame(rt: HostRuntime) -> Result<(), Fail> {
+fn packets_go_on_or_are_dropped_in_the_order_of_their_frame(rt: HostRuntime) {
     let alloc = rt.alloc();
-    let fork = with_handoff(alloc)?;
-    let whole = whole(alloc)?;
+    let fork = with_handoff(&rt, alloc);
+    let whole = whole(&rt, alloc);
     let whole = whole.as_slice();
-    let ([first, second, third], out) = dispatched(&rt, alloc, &fork, 2, [whole, SHORT, whole])?;
-    assert_eq!(rt; out.next.as_slice(), [(first, 0), (third, 0)].as_slice());
-    assert_eq!(rt;
+    let ([first, second, third], out) = dispatched(&rt, alloc, &fork, 2, [whole, SHORT, whole]);
+    same(
+        &rt,
+        out.next.as_slice(),
+        [(first, 0), (third, 0)].as_slice(),
+    );
+    same(
+        &rt,
         out.drops.as_slice(),
-        [(second, DropError::Short)].as_slice()
+        [(second, DropError::Short)].as_slice(),
     );
-    assert!(rt; out.tx.is_empty() && out.hands.is_empty());
-    Ok(())
+    holds(&rt, out.tx.is_empty() && out.hands.is_empty());
 }
 
 #[test]
-fn packets_are_sent_in_the_order_of_their_frame(rt: HostRuntime) -> Result<(), Fail> {
+fn packets_are_sent_in_the_order_of_their_frame(rt: HostRuntime) {
     let alloc = rt.alloc();
-    let fork = with_handoff(alloc)?;
+    let fork = with_handoff(&rt, alloc);
     let frames = [SHORT, SHORT, SHORT];
-    let ([first, second, third], out) = dispatched(&rt, alloc, &fork, 7, frames)?;
-    assert_eq!(rt;
+    let ([first, second, third], out) = dispatched(&rt, alloc, &fork, 7, frames);
+    same(
+        &rt,
         out.tx.as_slice(),
-        [(first, 0), (second, 0), (third, 0)].as_slice()
+        [(first, 0), (second, 0), (third, 0)].as_slice(),
     );
-    Ok(())
 }
 
 #[test]
-fn packets_are_handed_over_by_their_hashes(rt: HostRuntime) -> Result<(), Fail> {
+fn packets_are_handed_over_by_their_hashes(rt: HostRuntime) {
     let alloc = rt.alloc();
-    let fork = with_handoff(alloc)?;
-    let whole = whole(alloc)?;
+    let fork = with_handoff(&rt, alloc);
+    let whole = whole(&rt, alloc);
     let frames = [SHORT, whole.as_slice(), SHORT];
-    let ([first, second, third], out) = dispatched(&rt, alloc, &fork, 9, frames)?;
-    assert_eq!(rt;
+    let ([first, second, third], out) = dispatched(&rt, alloc, &fork, 9, frames);
+    same(
+        &rt,
         out.hands.as_slice(),
-        [(first, 0), (second, 0xcacb_cbc9), (third, 0)].as_slice()
+        [(first, 0), (second, 0xcacb_cbc9), (third, 0)].as_slice(),
     );
-    assert_eq!(rt; out.hands.len(), 3);
-    Ok(())
+    has_length(&rt, out.hands.len(), 3);
 }
 
 #[test]
-fn lists_are_emptied_and_filled_again(rt: HostRuntime) -> Result<(), Fail> {
-    let mut out = Sorted::new(rt.alloc())?;
+fn lists_are_emptied_and_filled_again(rt: HostRuntime) {
+    let mut out = Sorted::new(rt.alloc()).expect(&rt, "memory");
     out.put(5, Step::Hand { hash: 6 });
-    assert_eq!(rt; out.hands.as_slice(), [(5, 6)].as_slice());
+    same(&rt, out.hands.as_slice(), [(5, 6)].as_slice());
     out.clear();
-    assert!(rt; out.hands.is_empty());
+    holds(&rt, out.hands.is_empty());
     out.hands.push(7, 8);
-    assert_eq!(rt; out.hands.as_slice(), [(7, 8)].as_slice());
+    same(&rt, out.hands.as_slice(), [(7, 8)].as_slice());
     out.hands.clear();
-    assert!(rt; out.hands.is_empty());
-    Ok(())
+    holds(&rt, out.hands.is_empty());
 }

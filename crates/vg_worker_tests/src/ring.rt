@@ -1,49 +1,49 @@
 ghost use Rattle.std.specs.Prelude.{◌≡◌, []};
 ghost use Rattle.vg_ring.specs.Ends.{put};
 
+use crate::checks::{holds, same};
 use std::sync::Wait;
-use std::test::Fail;
 use std::thread;
 use vg_ring::{Full, RingRx, RingTx, close, ring};
 
 #[test]
-fn items_come_out_in_the_order_in_which_they_went_in(rt: HostRuntime) -> Result<(), Fail> {
-    let (mut tx, mut rx) = ring::<u32>(rt.alloc(), 2)?;
-    tx.push(1)?;
-    tx.push(2)?;
-    assert_eq!(rt;
+fn items_come_out_in_the_order_in_which_they_went_in(rt: HostRuntime) {
+    let (mut tx, mut rx) = ring::<u32>(rt.alloc(), 2).expect(&rt, "memory");
+    tx.push(1).expect(&rt, "a slot");
+    tx.push(2).expect(&rt, "a slot");
+    same(
+        &rt,
         tx.push(3),
         Err(Full {
             accepted: 2,
-            item: 3
-        })
+            item: 3,
+        }),
     );
-    assert_eq!(rt; rx.pop(), Some(1));
-    tx.push(3)?;
-    assert_eq!(rt; rx.pop(), Some(2));
-    assert_eq!(rt; rx.pop(), Some(3));
-    assert_eq!(rt; rx.pop(), None);
-    tx.push(4)?;
+    same(&rt, rx.pop(), Some(1));
+    tx.push(3).expect(&rt, "a slot");
+    same(&rt, rx.pop(), Some(2));
+    same(&rt, rx.pop(), Some(3));
+    same(&rt, rx.pop(), None);
+    tx.push(4).expect(&rt, "a slot");
     let mut rest = close(tx, rx);
-    assert_eq!(rt; rest.next(), Some(4));
-    assert_eq!(rt; rest.next(), None);
-    Ok(())
+    same(&rt, rest.next(), Some(4));
+    same(&rt, rest.next(), None);
 }
 
 // After the note the push is proved to be accepted, and so is the pop to find an item.
 #[test]
-fn a_note_that_was_learnt_makes_the_next_call_sure(rt: HostRuntime) -> Result<(), Fail> {
-    let (mut tx, mut rx) = ring::<u32>(rt.alloc(), 1)?;
-    tx.push(1)?;
-    assert_eq!(rt; rx.pop(), Some(1));
+fn a_note_that_was_learnt_makes_the_next_call_sure(rt: HostRuntime) {
+    let (mut tx, mut rx) = ring::<u32>(rt.alloc(), 1).expect(&rt, "memory");
+    tx.push(1).expect(&rt, "a slot");
+    let first = rx.pop().expect(&rt, "an item");
+    same(&rt, first, 1);
     let note = rx.note();
     tx.learn(note);
     let Ok(()) = tx.push(2) else { unreachable!() };
     let note = tx.tell();
     rx.learn(note);
     let Some(item) = rx.pop() else { unreachable!() };
-    assert_eq!(rt; item, 2);
-    Ok(())
+    same(&rt, item, 2);
 }
 
 const ITEMS: u64 = 100_000;
@@ -85,14 +85,13 @@ fn next_item(rt: &impl Wait, rx: &mut RingRx<u64>) -> u64 {
 }
 
 #[test]
-fn two_threads_hand_over_a_hundred_thousand_items_in_order(rt: HostRuntime) -> Result<(), Fail> {
-    let (mut tx, mut rx) = ring::<u64>(rt.alloc(), 64)?;
+fn two_threads_hand_over_a_hundred_thousand_items_in_order(rt: HostRuntime) {
+    let (mut tx, mut rx) = ring::<u64>(rt.alloc(), 64).expect(&rt, "memory");
     let ((), in_order) = thread::join(
         &rt,
         || push_all(&rt, &mut tx),
         || come_in_order(&rt, &mut rx),
     );
-    assert!(rt; in_order);
-    assert_eq!(rt; rx.pop(), None);
-    Ok(())
+    holds(&rt, in_order);
+    same(&rt, rx.pop(), None);
 }

@@ -6,8 +6,8 @@ ghost use Rattle.vg_steps.specs.Trails.{found};
 ghost use Rattle.vg_steps.specs.Tables.{place};
 ghost use Rattle.vg_steps.specs.Seats.{table_of, id_of, me_of, trail_of, IsSameSeat, Finds};
 
+use crate::checks::same;
 use std::alloc::Global;
-use std::test::Fail;
 use vg_steps::{Join, Play, Seat, Split, Table, TableRule};
 
 // Words without a rule. What a seat knows is a number that no step changes.
@@ -104,27 +104,26 @@ fn count_and_look(table: &Plain, seat: &mut Seat<u64, u64>) -> (u64, u64)
 }
 
 #[test]
-fn each_step_finds_what_stood_there(rt: HostRuntime) -> Result<(), Fail> {
+fn each_step_finds_what_stood_there(rt: HostRuntime) {
     let slots: Vec<u64> = Vec::new(rt.alloc());
     let Ok((table, mut seat)) = Table::new(rt.alloc(), &[7, 8], slots, &()) else {
         panic!(rt; "no memory")
     };
     let table: Plain = table;
-    assert_eq!(rt; load(&table, &mut seat, 1), 8);
+    same(&rt, load(&table, &mut seat, 1), 8);
     store(&table, &mut seat, 1, 20);
-    assert_eq!(rt; add(&table, &mut seat, 1, 5), 20);
-    assert_eq!(rt; take_off(&table, &mut seat, 1, 1), 25);
+    same(&rt, add(&table, &mut seat, 1, 5), 20);
+    same(&rt, take_off(&table, &mut seat, 1, 1), 25);
     let mut other = split(&table, &mut seat);
-    assert_eq!(rt; add(&table, &mut other, 0, 1), 7);
+    same(&rt, add(&table, &mut other, 0, 1), 7);
     join(&table, &mut seat, other);
     let (count, last) = count_and_look(&table, &mut seat);
-    assert_eq!(rt; count, 8);
-    assert_eq!(rt; last, 24);
+    same(&rt, count, 8);
+    same(&rt, last, 24);
     let closed = table.close_with(seat);
-    assert_eq!(rt; closed.word(0), 9);
-    assert_eq!(rt; closed.word(1), 24);
+    same(&rt, closed.word(0), 9);
+    same(&rt, closed.word(1), 24);
     closed.free();
-    Ok(())
 }
 
 // While the first seat doesn't hold it, the box is at home.
@@ -167,12 +166,11 @@ fn swap(table: &Boxed, seat: &mut Holder, new: u64) -> Option<u64>
 }
 
 #[test]
-fn a_slot_keeps_what_was_put_into_it(rt: HostRuntime) -> Result<(), Fail> {
+fn a_slot_keeps_what_was_put_into_it(rt: HostRuntime) {
     let Ok((table, mut seat)) = Table::vacant(rt.alloc(), &[3], 1, &()) else {
         panic!(rt; "no memory")
     };
     let table: Boxed = table;
-    assert_eq!(rt; swap(&table, &mut seat, 5), None);
-    assert_eq!(rt; swap(&table, &mut seat, 6), Some(5));
-    Ok(())
+    same(&rt, swap(&table, &mut seat, 5), None);
+    same(&rt, swap(&table, &mut seat, 6), Some(5));
 }

@@ -6,16 +6,16 @@ pub visits-requires : goal.visits-requires
 visits-requires g c =
     let nodes : Tally → ℕ = λ t. length t.visits in
     let first : nodes c.sent.new.self ≡ 2 =
-    ap nodes c.sent.ensures ∙ ap nodes c.visit.ensures ∙ ap (λ (t : Tally). length (more_at 0 3 t.visits)) c.in_ok-first.ensures in
-    let size : IsSameSize c.sent.new.self c.in_ok-whole.whole = c.in_ok-whole.ensures.size 0 c.sent.new.self (lit< tt) in
+    ap nodes c.sent.ensures ∙ ap nodes c.visit.ensures ∙ ap (λ (t : Tally). length (more_at 0 3 t.visits)) c.counters_of-first.ensures in
+    let size : IsSameSize c.sent.new.self c.in-Ok.whole = c.in-Ok.ensures.size 0 c.sent.new.self (lit< tt) in
     omega (arith, size.nodes, first)
 
 pub visits-requires-2 : goal.visits-requires-2
 visits-requires-2 g c =
     let nodes : Tally → ℕ = λ t. length t.visits in
     let first : nodes c.sent.new.self ≡ 2 =
-    ap nodes c.sent.ensures ∙ ap nodes c.visit.ensures ∙ ap (λ (t : Tally). length (more_at 0 3 t.visits)) c.in_ok-first.ensures in
-    let size : IsSameSize c.sent.new.self c.in_ok-whole.whole = c.in_ok-whole.ensures.size 0 c.sent.new.self (lit< tt) in
+    ap nodes c.sent.ensures ∙ ap nodes c.visit.ensures ∙ ap (λ (t : Tally). length (more_at 0 3 t.visits)) c.counters_of-first.ensures in
+    let size : IsSameSize c.sent.new.self c.in-Ok.whole = c.in-Ok.ensures.size 0 c.sent.new.self (lit< tt) in
     omega (arith, size.nodes, first)
 
 pub sends-requires : goal.sends-requires
@@ -23,6 +23,6 @@ sends-requires g c =
     let interfaces : Tally → ℕ = λ t. length t.sends in
     let first : interfaces c.sent.new.self ≡ 1 =
     ap interfaces c.sent.ensures ∙ ap (λ (t : Tally). length (more_at 0 1 t.sends)) c.visit.ensures
-    ∙ ap (λ (t : Tally). length (more_at 0 1 t.sends)) c.in_ok-first.ensures in
-    let size : IsSameSize c.sent.new.self c.in_ok-whole.whole = c.in_ok-whole.ensures.size 0 c.sent.new.self (lit< tt) in
+    ∙ ap (λ (t : Tally). length (more_at 0 1 t.sends)) c.counters_of-first.ensures in
+    let size : IsSameSize c.sent.new.self c.in-Ok.whole = c.in-Ok.ensures.size 0 c.sent.new.self (lit< tt) in
     omega (arith, size.interfaces, first)

@@ -1,4 +1,4 @@
-use Rattle.std.proofs.Common.{◌≡◌, ◌+◌, ◌<◌, length, arith}
+use Rattle.std.proofs.Common.{◌<◌, length, arith}
 use Rattle.std.proofs.lemmas.List.{length-set}
 use Rattle.vg_frame.proofs.PendingLemmas.{pending_count-put}
 use Rattle.vg_worker_tests.proofs.frame.put_all.Goals as goal

@@ -7,9 +7,9 @@ use Rattle.vg_worker_tests.proofs.nodes.dispatched.Goals as goal
 pub dispatch_frame-requires-clause-distinct : goal.dispatch_frame-requires-clause-distinct
 unfolding IsDistinct
 dispatch_frame-requires-clause-distinct g c =
-    let first : ℕ = c.in_ok-first.first in
-    let second : ℕ = c.in_ok-second.second in
-    let third : ℕ = c.in_ok-third.third in
+    let first : ℕ = c.place-first.result in
+    let second : ℕ = c.place-second.result in
+    let third : ℕ = c.place-third.result in
     let one : nat_eq first second ≡ false = ne_eqb first second (λ (e : first ≡ second). omega arith) in
     let two : nat_eq first third ≡ false = ne_eqb first third (λ (e : first ≡ third). omega arith) in
     let three : nat_eq second third ≡ false = ne_eqb second third (λ (e : second ≡ third). omega arith) in
