@@ -6,6 +6,7 @@ ghost use Rattle.vg_match.specs.Diffs.{IsDiff};
 ghost use Rattle.vg_diff.specs.Run.{packet_bytes, all_bytes};
 
 use std::alloc::{AllocError, Global};
+use std::thread::Threads;
 use vg_capture::Capture;
 use vg_match::{Diff, Field, Range, Side, compare, compared_all, fronts, views};
 use vg_model::Bytes;
@@ -97,7 +98,8 @@ pub fn frames_at<'a>(
 }
 
 // How the packets of both sides differ, with what each is compared by.
-fn compared_by<'k>(
+fn compared_by<'k, R: Threads>(
+    rt: &R,
     alloc: Global,
     wanted: &Side<'_, '_, 'k>,
     got: &Side<'_, '_, 'k>,
@@ -117,11 +119,12 @@ fn compared_by<'k>(
     {
         return Err(AllocError);
     }
-    compare(alloc, wanted, got, dropped, ignored, only)
+    compare(rt, alloc, wanted, got, dropped, ignored, only)
 }
 
 // How the packets of both sides differ where no field is ignored. Nothing is copied.
-fn whole_differences<'f>(
+fn whole_differences<'f, R: Threads>(
+    rt: &R,
     alloc: Global,
     wanted: &[&'f [u8]],
     got: &[&'f [u8]],
@@ -134,6 +137,7 @@ fn whole_differences<'f>(
     let got_keys = fronts(alloc, got)?;
     let dropped_keys = fronts(alloc, dropped)?;
     compared_by(
+        rt,
         alloc,
         &side(wanted, wanted_keys.as_slice()),
         &side(got, got_keys.as_slice()),
@@ -152,7 +156,8 @@ fn side<'s, 'f, 'k>(frames: &'s [&'f [u8]], keys: &'s [&'k [u8]]) -> Side<'s, 'f
 }
 
 // How the packets of both sides differ, with rows of what they are compared by.
-fn row_differences<'r>(
+fn row_differences<'r, R: Threads>(
+    rt: &R,
     alloc: Global,
     wanted: (&[&[u8]], &'r [Bytes]),
     got: (&[&[u8]], &'r [Bytes]),
@@ -169,6 +174,7 @@ fn row_differences<'r>(
     let got_keys = views(alloc, got.1)?;
     let dropped_keys = views(alloc, dropped.1)?;
     compared_by(
+        rt,
         alloc,
         &side(wanted.0, wanted_keys.as_slice()),
         &side(got.0, got_keys.as_slice()),
@@ -184,7 +190,8 @@ fn row_differences<'r>(
 /// # Errors
 ///
 /// [`AllocError`] where memory runs out, or where a side has more than 2^32 packets.
-pub fn differences<'f>(
+pub fn differences<'f, R: Threads>(
+    rt: &R,
     alloc: Global,
     wanted: &[&'f [u8]],
     got: &[&'f [u8]],
@@ -195,12 +202,13 @@ pub fn differences<'f>(
     ensures { IfOk result (IsDiff ignored.now (record { only = only.now; wanted = seen wanted.now; got = seen got.now; dropped = seen dropped.now })) }
 {
     if let [] = ignored {
-        return whole_differences(alloc, wanted, got, dropped, only);
+        return whole_differences(rt, alloc, wanted, got, dropped, only);
     }
     let wanted_rows = compared_all(alloc, wanted, ignored)?;
     let got_rows = compared_all(alloc, got, ignored)?;
     let dropped_rows = compared_all(alloc, dropped, ignored)?;
     row_differences(
+        rt,
         alloc,
         (wanted, wanted_rows.as_slice()),
         (got, got_rows.as_slice()),

@@ -75,7 +75,8 @@ struct Matches {
 }
 
 // What is found of frames and of those that were dropped.
-fn matches_of(
+fn matches_of<R: Threads>(
+    rt: &R,
     alloc: Global,
     frames: &Frames<'_>,
     drops: &[&[u8]],
@@ -84,14 +85,15 @@ fn matches_of(
 ) -> Result<Matches, AllocError>
     ensures { IfOk result (AreMatches ignored.now only.now frames.now.wanted.now frames.now.got.now frames.now.starts.now (seen drops.now)) }
 {
-    let diff = differences(alloc, frames.wanted, frames.got, drops, ignored, only)?;
+    let diff = differences(rt, alloc, frames.wanted, frames.got, drops, ignored, only)?;
     let reordered = reordered(alloc, diff.same.as_slice(), frames.wanted, frames.starts)?;
     Ok(Matches { diff, reordered })
 }
 
 // What is found of frames where none is known of those that were dropped. They are handed over as slices: of a closure that holds them as
 // one, its caller knows nothing.
-fn matches_alone(
+fn matches_alone<R: Threads>(
+    rt: &R,
     alloc: Global,
     wanted: &[&[u8]],
     got: &[&[u8]],
@@ -106,7 +108,7 @@ fn matches_alone(
         got,
         starts,
     };
-    matches_of(alloc, &frames, &[], ignored, only)
+    matches_of(rt, alloc, &frames, &[], ignored, only)
 }
 
 // The packets of a run that were dropped: their frames as far as they are known, and their numbers in the run.
@@ -154,7 +156,7 @@ fn due_of(
 
 // What is due for frames of what was loaded, where the run's capture is not among it: one thread compares the frames while the other reads
 // the report.
-fn due_beside<'a, R: Threads>(
+fn due_beside<'a, R: Threads + Sync>(
     rt: &R,
     alloc: Global,
     ask: &Ask<'a>,
@@ -172,7 +174,7 @@ fn due_beside<'a, R: Threads>(
         rt,
         ||
             ensures { IfOk result (AreMatches ignored.entry.now only.entry.now wanted.entry.now got.entry.now starts.entry.now []) }
-        { matches_alone(alloc, wanted, got, starts, ignored, only) },
+        { matches_alone(rt, alloc, wanted, got, starts, ignored, only) },
         ||
             ensures { IfOk result (λ report. report_of input.entry.now.text ≡ Ok report) }
         { report_in(alloc, input) },
@@ -195,7 +197,8 @@ fn due_beside<'a, R: Threads>(
 }
 
 // What is due for frames and for what the report says was dropped, with the run's capture.
-fn due_with(
+fn due_with<R: Threads>(
+    rt: &R,
     alloc: Global,
     ask: &Ask<'_>,
     frames: &Frames<'_>,
@@ -212,6 +215,7 @@ fn due_with(
         numbers: numbers.as_slice(),
     };
     let matches = matches_of(
+        rt,
         alloc,
         frames,
         drops.frames,
@@ -223,7 +227,8 @@ fn due_with(
 
 // What is due for frames of what was loaded, with the run's capture among it: the report says which of its packets were dropped, and is
 // read first.
-fn due_behind<'a>(
+fn due_behind<'a, R: Threads>(
+    rt: &R,
     alloc: Global,
     ask: &Ask<'a>,
     input: &Input,
@@ -238,14 +243,14 @@ fn due_behind<'a>(
         Ok(report) => report,
         Err(stop) => return Err(stop),
     };
-    match due_with(alloc, ask, frames, &report, capture) {
+    match due_with(rt, alloc, ask, frames, &report, capture) {
         Ok(due) => Ok(due),
         Err(_) => Err(Stop::Memory),
     }
 }
 
 // What is due for what was loaded.
-fn compared<'a, R: Threads>(
+fn compared<'a, R: Threads + Sync>(
     rt: &R,
     alloc: Global,
     ask: &Ask<'a>,
@@ -268,13 +273,13 @@ fn compared<'a, R: Threads>(
         starts: starts.as_slice(),
     };
     match &input.capture {
-        Some(capture) => due_behind(alloc, ask, input, &frames, capture),
+        Some(capture) => due_behind(rt, alloc, ask, input, &frames, capture),
         None => due_beside(rt, alloc, ask, input, &frames),
     }
 }
 
 /// What is due for what is asked, over the files of a folder.
-pub fn answer<'a, F: Folder, R: Threads>(
+pub fn answer<'a, F: Folder, R: Threads + Sync>(
     rt: &R,
     alloc: Global,
     ask: &Ask<'a>,
@@ -306,7 +311,7 @@ fn router<'a, F: Folder>(alloc: Global, script: &'a str, folder: &mut F) -> Resu
 }
 
 // What is due for the words, over the files of a folder.
-fn found<'a, F: Folder, R: Threads>(
+fn found<'a, F: Folder, R: Threads + Sync>(
     rt: &R,
     alloc: Global,
     words: &'a [&'a str],
@@ -348,7 +353,7 @@ fn due_for(alloc: Global, found: Result<Due, Stop<'_>>) -> Option<Due>
 /// 0: all packets match, up to what is ignored, and how they do was printed; or the commands for the kernel's router were. 9: they don't, and how they differ was printed. 1: memory ran
 /// out, and nothing was printed. 2 to 5: nothing is compared, and one line is printed that says why. 7: the sink failed in the middle of what
 /// was to be printed.
-pub fn diff_run<F: Folder, O: Sink, R: Threads>(
+pub fn diff_run<F: Folder, O: Sink, R: Threads + Sync>(
     rt: &R,
     alloc: Global,
     words: &[&str],

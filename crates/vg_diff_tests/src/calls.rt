@@ -132,7 +132,7 @@ fn padded<R: Abort + AllocGlobal>(rt: &R, frame: &[u8]) -> Vec<u8> {
 }
 
 /// The status and the printed text, where these frames had to come and those did, in one savefile.
-fn compare_with<R: Abort + AllocGlobal + Threads>(
+fn compare_with<R: Abort + AllocGlobal + Threads + Sync>(
     rt: &R,
     options: &[&str],
     wanted: &[&[u8]],
@@ -160,7 +160,7 @@ fn compare_with<R: Abort + AllocGlobal + Threads>(
 }
 
 /// The same where FIRST and SECOND had to come.
-fn compare<R: Abort + AllocGlobal + Threads>(
+fn compare<R: Abort + AllocGlobal + Threads + Sync>(
     rt: &R,
     options: &[&str],
     frames: &[&[u8]],

@@ -10,13 +10,14 @@ use Rattle.vg_match.specs.declared.fields.Field.{Field}
 use Rattle.vg_match.specs.declared.keys.Likeness.{Likeness}
 use Rattle.vg_match.specs.declared.keys.Likeness.TheVariants.{Datagram, Payload}
 use Rattle.vg_match.specs.declared.matching.Entry.{Entry}
+use Rattle.vg_match.specs.declared.matching.Hashed.{Hashed}
 use Rattle.vg_match.specs.declared.matching.Matching.{Matching}
 use Rattle.vg_match.specs.Keys.{compared, joined, parts_of, likeness_of}
-use Rattle.vg_match.specs.Matching.{Pair, wanted_of, got_of, IsMatchingOf}
+use Rattle.vg_match.specs.Matching.{Pair, wanted_of, got_of, entry_of, IsMatchingOf}
 use Rattle.vg_match.specs.Frames.{layout_of}
 use Rattle.vg_match.specs.declared.ranges.Range.{Range}
 use Rattle.vg_match.specs.declared.sides.Side.{Side}
-use Rattle.vg_match.specs.Sides.{IsSide, seen, frame_at, number_of, key_of, is_meant, meant_number, meant_numbers, alike_at, IsOf}
+use Rattle.vg_match.specs.Sides.{IsSide, IsInOrder, seen, frame_at, number_of, key_of, is_meant, meant_number, meant_numbers, alike_at, IsOf}
 use Rattle.vg_match.specs.Diffs.{Packets, firsts, seconds, pair_numbers, HaveInCommon, HaveNothingInCommon, IsMatched, AreRowsOf, AreNumbersOf, IsDiff}
 
 -- what holds of what a function makes of each holds of each
@@ -102,6 +103,20 @@ pub matched_at : (key : List ℕ → List ℕ) (first second : List (List ℕ)) 
     → IsMatched key first second ns os matched → IsMatched key first second ns' os' matched
 matched_at key first second ns ns' os os' matched same alike is = subst (λ xs. IsMatched key first second xs os' matched) same (subst (λ xs. IsMatched key first second ns xs matched) alike is)
 
+-- the matching of two sides in their order is one of what is meant of these
+pub matches_in_order : {ignored : List Field} {only : List Range} {first second : List (List ℕ)} {ones others : List Hashed} {matching : Matching} {matched : Matched}
+    → IsInOrder ignored only first ones → IsInOrder ignored only second others → IsMatchingOf (map entry_of ones) (map entry_of others) matching → AreNumbersOf matching matched
+    → IsMatched (compared ignored) first second (meant_numbers only 0 first) (meant_numbers only 0 second) matched
+matches_in_order {ignored} {only} {first} {second} {ones} {others} {matching} {matched} one other is are =
+    let made : IsMatched (compared ignored) first second (map number_of (map entry_of ones)) (map number_of (map entry_of others)) matched
+    = is_matched (compared ignored) first second (map entry_of ones) (map entry_of others) matching matched is one.keys other.keys are.pairs are.first are.second in
+    record {
+      first_once = IsPermutation-trans _ _ _ one.numbers made.first_once;
+      second_once = IsPermutation-trans _ _ _ other.numbers made.second_once;
+      alike = made.alike;
+      greatest = made.greatest;
+    }
+
 -- ---- the three matchings
 
 -- nothing in common stays so in another order of both
@@ -162,7 +177,7 @@ pub rows_alike : (likeness : Likeness) (ignored : List Field) (side : Side) (num
     → AreRowsOf (likeness_of likeness ignored) (seen side.frames.now) numbers rows
 rows_alike likeness ignored side numbers rows is all are = record {
   rows_are = are ∙ map_agrees _ _ numbers (λ k d below. ap (λ bytes. joined (parts_of likeness (layout_of (frame_at (seen side.frames.now) (get_or numbers k d)))) bytes)
-      (ap (λ keys. frame_at keys (get_or numbers k d)) is.keys ∙ get_or-map (compared ignored) (seen side.frames.now) (get_or numbers k d) [] [] (simp length-map (all k d below))));
+      (ap (λ keys. frame_at keys (get_or numbers k d)) is.keys_are ∙ get_or-map (compared ignored) (seen side.frames.now) (get_or numbers k d) [] [] (simp length-map (all k d below))));
   below = λ k d within. simp length-map (all k d within);
 }
 

@@ -230,9 +230,8 @@ pub sorted_from : (before after : List Hashed) → All IsHashed before → IsPer
 sorted_from before after hashes moved sorted = sorted_rise after (All-permutation IsHashed before after moved hashes) sorted
 
 -- the entries of what was put in another order
-pub entries_moved : (entries : List Entry) (before after now : List Hashed) → map entry_of before ≡ entries → IsPermutation before after → now ≡ after → IsPermutation entries (map entry_of now)
-entries_moved entries before after now are moved same =
-    subst (λ xs. IsPermutation xs (map entry_of now)) are (subst (λ xs. IsPermutation (map entry_of before) (map entry_of xs)) (sym same) (IsPermutation-map entry_of before after moved))
+pub entries_moved : (entries : List Entry) (before after : List Hashed) → map entry_of before ≡ entries → IsPermutation before after → IsPermutation entries (map entry_of after)
+entries_moved entries before after are moved = subst (λ xs. IsPermutation xs (map entry_of after)) are (IsPermutation-map entry_of before after moved)
 
 -- a matching of what two sides were put in order to is one of the two sides
 pub matches_before : (wanted got sorted climbing : List Entry) (matching : Matching) → IsPermutation wanted sorted → IsPermutation got climbing

@@ -41,7 +41,7 @@ key_beside ignored side is i d below =
     let within : i < length side.keys.now = omega (arith, is.count) in
     let all : i < length (seen side.frames.now) = simp length-map below in
     sym (seen_at side.keys.now i d within)
-    ∙ ap (λ keys. frame_at keys i) is.keys
+    ∙ ap (λ keys. frame_at keys i) is.keys_are
     ∙ get_or-map (compared ignored) (seen side.frames.now) i [] [] all
 
 -- one frame more, which is meant or left out

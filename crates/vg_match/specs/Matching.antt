@@ -69,3 +69,8 @@ hashed_cmp first second = ordering_then (nat_cmp first.hash second.hash) (slice_
 pub record AreHashed (all : List Hashed) : Type 0 where
   pub hashes : All IsHashed all
   pub rise : Rises (map entry_of all)
+
+-- these are the entries, with the hashes of their keys, in the order of their keys
+pub record AreInOrder (entries : List Entry) (all : List Hashed) : Type 0 where
+  pub hashed : AreHashed all
+  pub moved : IsPermutation entries (map entry_of all)

@@ -1,12 +1,15 @@
 -- The packets of one side, by number.
-use Rattle.std.specs.Prelude.{◌≡◌, ℕ, suc, ◌+◌, ◌<◌, ◌≤◌, ◌^◌, Bool, not, ◌&&◌, List, [], ◌∷◌, ◌++◌, length, map, slice_index_or, if◌then◌else◌}
+use Rattle.std.specs.Prelude.{◌≡◌, ℕ, suc, ◌+◌, ◌<◌, ◌≤◌, ◌^◌, Bool, not, ◌&&◌, List, [], ◌∷◌, ◌++◌, length, map, slice_index_or, All, if◌then◌else◌}
 use Rattle.std.specs.Borrow.{Bor}
+use Rattle.std.specs.List.Sorted.{IsPermutation}
 use Rattle.vg_match.specs.declared.fields.Field.{Field}
 use Rattle.vg_match.specs.declared.keys.Likeness.{Likeness}
 use Rattle.vg_match.specs.declared.matching.Entry.{Entry}
+use Rattle.vg_match.specs.declared.matching.Hashed.{Hashed}
 use Rattle.vg_match.specs.declared.sides.Side.{Side}
 use Rattle.vg_match.specs.Frames.{layout_of}
 use Rattle.vg_match.specs.Keys.{compared, joined, parts_of}
+use Rattle.vg_match.specs.Matching.{entry_of, AreHashed}
 use Rattle.vg_match.specs.declared.ranges.Range.{Range}
 use Rattle.vg_match.specs.Noise.{is_noise}
 use Rattle.vg_match.specs.Ranges.{is_in_reach}
@@ -19,11 +22,15 @@ seen frames = map (λ (frame : Bor (List ℕ)). frame.now) frames
 abbrev pub frame_at : List (List ℕ) → ℕ → List ℕ
 frame_at frames number = slice_index_or frames number []
 
--- each frame of the side stands beside what it is compared by
-pub record IsSide (ignored : List Field) (side : Side) : Type 0 where
-  pub keys : seen side.keys.now ≡ map (compared ignored) (seen side.frames.now)
-  pub count : length side.keys.now ≡ length side.frames.now
-  pub few : length side.frames.now ≤ 2 ^ 32
+-- each of these frames stands beside what it is compared by
+pub record AreKeys (ignored : List Field) (frames keys : List (Bor (List ℕ))) : Type 0 where
+  pub keys_are : seen keys ≡ map (compared ignored) (seen frames)
+  pub count : length keys ≡ length frames
+  pub few : length frames ≤ 2 ^ 32
+
+-- so do those of a side
+abbrev pub IsSide : List Field → Side → Type 0
+IsSide ignored side = AreKeys ignored side.frames.now side.keys.now
 
 abbrev pub number_of : Entry → ℕ
 number_of entry = entry.number
@@ -57,3 +64,9 @@ pub record IsOf (key : List ℕ → List ℕ) (frames : List (List ℕ)) (entry 
 -- what the frame of a number is alike by, of what it is compared by
 abbrev pub alike_at : Likeness → (frames keys : List (List ℕ)) → ℕ → List ℕ
 alike_at likeness frames keys number = joined (parts_of likeness (layout_of (frame_at frames number))) (frame_at keys number)
+
+-- the entries of the frames that are meant, in the order of what these are compared by
+pub record IsInOrder (ignored : List Field) (only : List Range) (frames : List (List ℕ)) (all : List Hashed) : Type 0 where
+  pub hashed : AreHashed all
+  pub numbers : IsPermutation (meant_numbers only 0 frames) (map number_of (map entry_of all))
+  pub keys : All (IsOf (compared ignored) frames) (map entry_of all)

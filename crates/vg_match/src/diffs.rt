@@ -2,15 +2,16 @@
 ghost use Rattle.std.specs.Prelude.{◌≡◌, ◌<◌, ◌↔◌, ℕ, List, IsTrue, length, map, All, IfOk};
 ghost use Rattle.vg_match.specs.Keys.{compared as compared_bytes, likeness_of};
 ghost use Rattle.vg_match.specs.Matching.{IsMatchingOf};
-ghost use Rattle.vg_match.specs.Sides.{IsSide, IsOf, seen, number_of, meant_numbers};
+ghost use Rattle.vg_match.specs.Sides.{IsSide, IsOf, AreKeys, IsInOrder, seen, number_of, meant_numbers};
 ghost use Rattle.vg_match.specs.Diffs.{IsDiff, IsMatched, AreRowsOf, AreNumbersOf, AllMatch, MatchIsExact, pair_numbers};
 
 use crate::fields::Field;
 use crate::keys::Likeness;
-use crate::matching::{Entry, Matching, match_up};
+use crate::matching::{Entry, Matching, match_up, merge};
 use crate::ranges::Range;
-use crate::sides::{Side, alike_all, meant_entries, with_keys};
+use crate::sides::{Side, alike_all, meant_entries, side_in_order, with_keys};
 use std::alloc::{AllocError, Global};
+use std::thread::{Threads, join};
 use vg_model::Bytes;
 
 /// How packets that came differ from those that had to come. All packets are named by their numbers; the first of a pair is the one that
@@ -71,8 +72,9 @@ fn matched_numbers(alloc: Global, matching: &Matching<'_>) -> Result<Matched, Al
     })
 }
 
-// Matches the packets of two sides that are meant, and equal but for what is ignored.
-fn match_equal<'k>(
+// Matches the packets of two sides that are meant, and equal but for what is ignored. Each side is put in order by a thread of its own.
+fn match_equal<'k, R: Threads>(
+    rt: &R,
     alloc: Global,
     first: &Side<'_, '_, 'k>,
     second: &Side<'_, '_, 'k>,
@@ -84,9 +86,22 @@ fn match_equal<'k>(
     ensures { IfOk result (IsMatched (compared_bytes ignored.now) (seen first.now.frames.now) (seen second.now.frames.now)
         (meant_numbers only.now 0 (seen first.now.frames.now)) (meant_numbers only.now 0 (seen second.now.frames.now))) }
 {
-    let ones = meant_entries(alloc, first, ignored, only)?;
-    let others = meant_entries(alloc, second, ignored, only)?;
-    let matching = match_up(alloc, ones.as_slice(), others.as_slice())?;
+    let (frames, keys) = (first.frames, first.keys);
+    let (other_frames, other_keys) = (second.frames, second.keys);
+    let (ones, others) = join(
+        rt,
+        ||
+            requires { AreKeys ignored.now frames.now keys.now }
+            ensures { IfOk result (λ made. IsInOrder ignored.entry.now only.entry.now (seen frames.entry.now) made.items) }
+        { side_in_order(alloc, frames, keys, ignored, only) },
+        ||
+            requires { AreKeys ignored.now other_frames.now other_keys.now }
+            ensures { IfOk result (λ made. IsInOrder ignored.entry.now only.entry.now (seen other_frames.entry.now) made.items) }
+        { side_in_order(alloc, other_frames, other_keys, ignored, only) },
+    );
+    let ones = ones?;
+    let others = others?;
+    let matching = merge(alloc, ones.as_slice(), others.as_slice())?;
     matched_numbers(alloc, &matching)
 }
 
@@ -178,7 +193,8 @@ fn diff_of(same: Matched, changed: Matched, there: Matched) -> Diff
 /// # Errors
 ///
 /// [`AllocError`] where memory runs out.
-pub fn compare<'k>(
+pub fn compare<'k, R: Threads>(
+    rt: &R,
     alloc: Global,
     wanted: &Side<'_, '_, 'k>,
     got: &Side<'_, '_, 'k>,
@@ -192,7 +208,7 @@ pub fn compare<'k>(
     ensures { IfOk result (IsDiff ignored.now
         (record { only = only.now; wanted = seen wanted.now.frames.now; got = seen got.now.frames.now; dropped = seen dropped.now.frames.now })) }
 {
-    let same = match_equal(alloc, wanted, got, ignored, only)?;
+    let same = match_equal(rt, alloc, wanted, got, ignored, only)?;
     let changed = match_alike(
         alloc,
         Likeness::Datagram,

@@ -1,6 +1,6 @@
 //! Entries of two sides, matched one to one by their keys.
 ghost use Rattle.std.specs.Prelude.{◌≡◌, ◌++◌, map, All, IfOk, OnOk};
-ghost use Rattle.vg_match.specs.Matching.{IsMatchingOf, entry_of, IsHashed, AreHashed, hashed_cmp};
+ghost use Rattle.vg_match.specs.Matching.{IsMatchingOf, entry_of, IsHashed, AreHashed, AreInOrder, hashed_cmp};
 
 use crate::hashes::hash_of;
 use std::alloc::{AllocError, Global};
@@ -29,7 +29,7 @@ pub struct Matching<'a> {
 // An entry and the hash of its key. They are put in order by the hash, which stands here, and by the key, which stands elsewhere in memory,
 // only where the hashes are the same.
 #[derive(Clone, Copy, PartialEq, Eq, PartialOrd, Ord)]
-struct Hashed<'a> {
+pub(crate) struct Hashed<'a> {
     hash: u64,
     entry: Entry<'a>,
 }
@@ -71,8 +71,12 @@ fn put_entries<'a>(out: &mut Vec<Entry<'a>>, hashed: &[Hashed<'a>]) -> Result<()
     Ok(())
 }
 
-// Matches two sides whose keys never fall, in one pass over both.
-fn merge<'a>(
+/// Matches two sides whose keys never fall, in one pass over both.
+///
+/// # Errors
+///
+/// [`AllocError`] where memory runs out.
+pub(crate) fn merge<'a>(
     alloc: Global,
     wanted: &[Hashed<'a>],
     got: &[Hashed<'a>],
@@ -114,6 +118,22 @@ fn merge<'a>(
     })
 }
 
+/// Entries with the hashes of their keys, in the order of their keys.
+///
+/// # Errors
+///
+/// [`AllocError`] where memory runs out.
+pub(crate) fn in_order<'a>(
+    alloc: Global,
+    entries: &[Entry<'a>],
+) -> Result<Vec<Hashed<'a>>, AllocError>
+    ensures { IfOk result (λ made. AreInOrder entries.now made.items) }
+{
+    let mut hashed = with_hashes(alloc, entries)?;
+    hashed.sort()?;
+    Ok(hashed)
+}
+
 /// Matches the entries of two sides by their keys: each with at most one of the other side, and as many as can be. Of several with one key
 /// those with the least numbers are matched, in their order.
 ///
@@ -127,9 +147,7 @@ pub fn match_up<'a>(
 ) -> Result<Matching<'a>, AllocError>
     ensures { IfOk result (IsMatchingOf wanted.now got.now) }
 {
-    let mut first = with_hashes(alloc, wanted)?;
-    let mut second = with_hashes(alloc, got)?;
-    first.sort()?;
-    second.sort()?;
+    let first = in_order(alloc, wanted)?;
+    let second = in_order(alloc, got)?;
     merge(alloc, first.as_slice(), second.as_slice())
 }

@@ -1,12 +1,12 @@
 //! The packets of one side.
 ghost use Rattle.std.specs.Prelude.{◌≡◌, ◌<◌, ◌++◌, [], length, map, All, IfOk, OnOk};
 ghost use Rattle.vg_match.specs.Keys.{compared as compared_bytes};
-ghost use Rattle.vg_match.specs.Sides.{is_meant as is_meant_frame, IsSide, seen, number_of, key_of, meant_number, meant_numbers, frame_at, IsOf, alike_at};
+ghost use Rattle.vg_match.specs.Sides.{is_meant as is_meant_frame, IsSide, seen, number_of, key_of, meant_number, meant_numbers, frame_at, IsOf, alike_at, AreKeys, IsInOrder};
 
 use crate::fields::Field;
 use crate::frames::front;
 use crate::keys::{Likeness, compared, likeness_of};
-use crate::matching::Entry;
+use crate::matching::{Entry, Hashed, in_order};
 use crate::noise::is_noise;
 use crate::ranges::{Range, is_in_reach};
 use std::alloc::{AllocError, Global};
@@ -129,6 +129,25 @@ pub fn meant_entries<'k>(
         put_meant(&mut entries, side, ignored, only, number)?;
     }
     Ok(entries)
+}
+
+/// The entries of the frames that are meant, in the order of what these are compared by.
+///
+/// # Errors
+///
+/// [`AllocError`] where memory runs out.
+pub(crate) fn side_in_order<'k>(
+    alloc: Global,
+    frames: &[&[u8]],
+    keys: &[&'k [u8]],
+    ignored: &[Field],
+    only: &[Range],
+) -> Result<Vec<Hashed<'k>>, AllocError>
+    requires { AreKeys ignored.now frames.now keys.now }
+    ensures { IfOk result (λ made. IsInOrder ignored.now only.now (seen frames.now) made.items) }
+{
+    let entries = meant_entries(alloc, &Side { frames, keys }, ignored, only)?;
+    in_order(alloc, entries.as_slice())
 }
 
 // What the frame of a number is alike by.

@@ -4,7 +4,7 @@ use Rattle.vg_diff.proofs.AnswerLemmas.{answers_at}
 use Rattle.vg_diff.proofs.top.due_behind.Goals as goal
 
 pub returns-in-Ok-due_with : goal.returns-in-Ok-due_with
-returns-in-Ok-due_with c = record {
+returns-in-Ok-due_with g c = record {
   report = c.in-Ok.report;
   is_report = c.in-Ok.ensures;
   dropped = c.in-Ok-due_with.ensures.0;
