@@ -225,7 +225,8 @@ fn many_packets(rt: &impl Abort, alloc: Global) -> Packets {
 
 /// The report of a run that transmits all of them.
 fn many_lines(rt: &impl Abort, alloc: Global) -> Vec<u8> {
-    let head = b"vgd report 1\nworkers 1\nbuffers 4096\ngenerations 1\npackets 65536\ninterface 0 pg0 tx 0\nnode 0 hand 0\n";
+    let head =
+        b"vgd report 1\nworkers 1\nbuffers 4096\ngenerations 1\npackets 65536\ninterface 0 pg0 tx 0\nnode 0 hand 0\n";
     let mut text = Vec::from_slice(alloc, head).expect(rt, "memory");
     for number in 0..65_536_u32 {
         let line = format!(in alloc; "packet {number} 0:0 tx pg0\n").expect(rt, "memory");
