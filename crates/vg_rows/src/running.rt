@@ -8,6 +8,7 @@ use crate::sentences::sentence_of;
 use std::alloc::{AllocError, Global};
 use std::sync::Wait;
 use std::thread::Threads;
+use vg_differs::{Finding, sentence};
 use vg_outside::{OpenGate, SureFolder, SureSink};
 use vg_row::{
     Call, Cause, Fault, Judged, Kept, Miss, Outcome, Row, check_of, first_miss, read_rows,
@@ -15,13 +16,13 @@ use vg_row::{
 };
 use vg_top::{Done, vgd_run};
 
-/// What a call of the program with these words comes to, over a folder of these files.
+/// What a call of the program with these words comes to, over a folder of these files, and what is found of a check.
 fn called<R: Wait + Threads + Sync>(
     rt: &R,
     alloc: Global,
     words: &[String],
     files: &[Kept],
-) -> Result<Outcome, AllocError> {
+) -> Result<(Outcome, Option<Finding>), AllocError> {
     let mut folder = SureFolder::new(alloc);
     for file in files {
         folder.add(file.name.as_str(), file.bytes.as_slice())?;
@@ -31,7 +32,7 @@ fn called<R: Wait + Threads + Sync>(
         .map(|word| word.as_str())
         .collect::<Vec<&str>>(alloc)?;
     let mut out = SureSink::new(alloc);
-    let Done { status, ran: _ } = vgd_run(
+    let Done { status, found, .. } = vgd_run(
         rt,
         alloc,
         words.as_slice(),
@@ -39,14 +40,48 @@ fn called<R: Wait + Threads + Sync>(
         &mut out,
         &OpenGate,
     );
-    Ok(Outcome {
+    let outcome = Outcome {
         status,
         printed: out.written,
         saved: match folder.file("t") {
             Some(bytes) => Some(bytes.to_vec(alloc)?),
             None => None,
         },
-    })
+    };
+    Ok((outcome, found))
+}
+
+/// The line on what is found of a check, where something is.
+fn line_on(alloc: Global, found: Option<Finding>) -> Result<Vec<u8>, AllocError> {
+    let Some(finding) = found else {
+        return Ok(Vec::new(alloc));
+    };
+    let sentence = sentence(alloc, &finding)?;
+    let line = format!(in alloc; "{sentence}\n")?;
+    Ok(line.into_bytes())
+}
+
+/// What a call for a sentence comes to: with the words of a check what the check comes to, but that the line on what is found of it is printed.
+fn explained<R: Wait + Threads + Sync>(
+    rt: &R,
+    alloc: Global,
+    words: &[String],
+    files: &[Kept],
+) -> Result<Outcome, AllocError> {
+    match words.first() {
+        Some(word) if word.as_str() == "check" => {
+            let (outcome, found) = called(rt, alloc, words, files)?;
+            Ok(Outcome {
+                printed: line_on(alloc, found)?,
+                ..outcome
+            })
+        }
+        _ => Ok(Outcome {
+            status: 0,
+            printed: sentence_of(alloc, words, files)?,
+            saved: None,
+        }),
+    }
 }
 
 /// What the calls of a row come to, in their order.
@@ -60,12 +95,13 @@ fn outcomes_of<R: Wait + Threads + Sync>(
     let mut outcomes = Vec::new(alloc);
     for call in row.calls.as_slice() {
         let outcome = match call {
-            Call::Program(words) => called(rt, alloc, words.as_slice(), row.files.as_slice())?,
-            Call::Sentence(words) => Outcome {
-                status: 0,
-                printed: sentence_of(alloc, words.as_slice(), row.files.as_slice())?,
-                saved: None,
-            },
+            Call::Program(words) => {
+                let (outcome, _) = called(rt, alloc, words.as_slice(), row.files.as_slice())?;
+                outcome
+            }
+            Call::Sentence(words) => {
+                explained(rt, alloc, words.as_slice(), row.files.as_slice())?
+            }
         };
         outcomes.push(outcome)?;
     }

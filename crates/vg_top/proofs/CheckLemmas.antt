@@ -1,6 +1,6 @@
 -- For `check_due` and `vgd_run`: from what a check found to what is due, and what is to be expected.
 use Rattle.std.proofs.Common.{◌≡◌, ◌≢◌, ℕ, ◌+◌, List, [], ◌∷◌, ◌++◌, refl, sym, ap, subst, ◌∙◌, inl, inr, arith}
-use Rattle.std.specs.Prelude.{Some, None, Result, Ok, Err, IfOk, codes}
+use Rattle.std.specs.Prelude.{Option, Some, None, IfSome, Result, Ok, Err, IfOk, codes}
 use Rattle.std.proofs.lemmas.Option.{same_Some}
 use Rattle.vg_model.specs.declared.Memory.{Memory}
 use Rattle.vg_model.specs.Graph.{Graph}
@@ -16,8 +16,12 @@ use Rattle.vg_script.specs.Reading.{script_of, largest_script}
 use Rattle.vg_plan.specs.Plan.{Planned}
 use Rattle.vg_check.specs.declared.verdicts.Verdict.{Verdict}
 use Rattle.vg_check.specs.declared.verdicts.Verdict.TheVariants as verdicts
-use Rattle.vg_check.specs.Verdicts.{case_of, IsAccepted}
+use Rattle.vg_check.specs.Verdicts.{Case, case_of, IsAccepted, IsVerdict}
 use Rattle.vg_words.specs.Command.{Check}
+use Rattle.vg_differs.specs.declared.finding.Finding.{Finding}
+use Rattle.vg_differs.specs.declared.judging.Judged.{Judged}
+use Rattle.vg_differs.specs.Findings.{IsFound}
+use Rattle.vg_differs.specs.Judged.{IsFoundIn}
 use Rattle.vg_files.specs.declared.refusals.Refusal.{Refusal}
 use Rattle.vg_files.specs.declared.refusals.Refusal.TheVariants as refusals
 use Rattle.vg_top.specs.declared.dues.Due.{Due}
@@ -28,6 +32,7 @@ use Rattle.vg_top.specs.Run.{Call, AreChecked, IsCheckDone, IsCheckRefused}
 use Rattle.vg_files.specs.Refusals.{status_of, line_of}
 use Rattle.vg_files.specs.Stops.{IsLoadOf, IsRefusedFor}
 use Rattle.vg_top.specs.Dues.{IsDueOf}
+use Rattle.vg_top.specs.Found.{IsFoundOf}
 use Rattle.vg_top.specs.Expected.{IsCheckable, IsStatusBy, by_result}
 use Rattle.vg_top.proofs.FileLemmas.{same_file, same_first, no_load, no_first_load}
 use Rattle.vg_top.proofs.RunLemmas.{whole_file, same_capture, same_script, graphs_by_script as graphs_alike}
@@ -168,6 +173,35 @@ module _ (call : Call) (check : Check) (bytes : CheckBytes) (is : check_asked ca
   judged_due (verdicts.Queue number) r j as_yes as_no = no_due (verdicts.Queue number) r j (λ e. cc) (as_no (λ e. cc))
   judged_due verdicts.Text r j as_yes as_no = no_due verdicts.Text r j (λ e. cc) (as_no (λ e. cc))
   judged_due verdicts.Tx r j as_yes as_no = no_due verdicts.Tx r j (λ e. cc) (as_no (λ e. cc))
+
+  -- what is found by it
+  pub judged_found : (judged : Judged) (r : Result Due Memory) → IsFoundIn check.queue bytes judged
+      → IfOk r (λ due. IfSome due.found (λ finding. (due.status ≡ 9) × (judged.found ≡ Ok (Some finding)))) → IfOk r (λ due. IfSome due.found (IsFoundOf call due.status))
+  judged_found judged (Err e) f d = tt
+  judged_found judged (Ok due) f d = by due.found d
+    where
+      by : (o : Option Finding) → IfSome o (λ finding. (due.status ≡ 9) × (judged.found ≡ Ok (Some finding))) → IfSome o (IsFoundOf call due.status)
+      by None d = tt
+      by (Some finding) d =
+          let w = whole call check bytes is first in
+          let case : Case = case_in check.queue bytes f.capture f.plan in
+          let found : IsFound case judged.verdict (Some finding) = subst (λ r. IfOk r (IsFound case judged.verdict)) d.1 f.found in
+          record {
+            denied = d.0;
+            check = check;
+            bytes = record { capture = w.capture; script = w.script; tx = bytes.tx; report = bytes.report };
+            loaded = w.loaded;
+            capture = f.capture;
+            plan = f.plan;
+            inputs = whole_inputs call check bytes f.capture f.plan w f.inputs;
+            first = subst (IsVerdict case) found.0 f.first;
+            is = found.1;
+          }
+
+-- what is found, and a fact beside it
+pub found_and : (A : Type 0) (B : Finding → Type 0) (o : Option Finding) → A → IfSome o B → IfSome o (λ finding. A × B finding)
+found_and A B None a b = tt
+found_and A B (Some finding) a b = (a, b)
 
 -- ---- what is to be expected
 

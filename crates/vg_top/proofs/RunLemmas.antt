@@ -1,5 +1,5 @@
 -- For `run` and `check_due`: from what a run found to what is due.
-use Rattle.std.proofs.Common.{◌≡◌, ℕ, ◌+◌, ◌<◌, ◌⊎◌, List, [], length, take, refl, sym, ap, ◌∙◌, inl, inr, arith}
+use Rattle.std.proofs.Common.{◌≡◌, ℕ, ◌+◌, ◌<◌, ◌⊎◌, List, [], length, take, refl, sym, ap, subst, ◌∙◌, inl, inr, arith}
 use Rattle.std.specs.Prelude.{Option, Some, None, IfSome, IsSomeAnd, Result, Ok, Err, IfOk, if◌then◌else◌}
 use Rattle.std.specs.Borrow.{Bor}
 use Rattle.std.proofs.lemmas.Bool.{cases_lt, lt-ltb}
@@ -16,6 +16,7 @@ use Rattle.vg_script.specs.Lines.{lines}
 use Rattle.vg_script.specs.Reading.{script_of, script_of_lines, refused, largest_script}
 use Rattle.vg_turns.specs.Turns.{turns as turns_in, most_bytes}
 use Rattle.vg_words.specs.Command.{Run}
+use Rattle.vg_differs.specs.declared.finding.Finding.{Finding}
 use Rattle.vg_files.specs.declared.reading.Input.{Input}
 use Rattle.vg_files.specs.declared.refusals.Refusal.{Refusal}
 use Rattle.vg_files.specs.declared.refusals.Refusal.TheVariants as refusals
@@ -172,6 +173,16 @@ stopped_due call stops.Memory P (Ok due) d h f = absurd d
 stopped_due call (stops.Refused refusal) P (Ok due) d h f = inr (d.2, (refusal, d.0, d.1, f refusal h))
 stopped_due call stop P (Err e) d h f = tt
 
+-- nothing is found where a run stops, or where nothing is said to be
+pub none_found : (P : Due → Finding → Type 0) (r : Result Due Memory) → IfOk r (λ due. due.found ≡ None) → IfOk r (λ due. IfSome due.found (P due))
+none_found P (Ok due) none = subst (λ o. IfSome o (P due)) (sym none) tt
+none_found P (Err e) none = tt
+
+pub stopped_found : (P : Due → Finding → Type 0) (stop : Stop) (r : Result Due Memory) → IfOk r (IsDueFor stop) → IfOk r (λ due. IfSome due.found (P due))
+stopped_found P stops.Memory (Ok due) d = absurd d
+stopped_found P (stops.Refused refusal) (Ok due) d = none_found P (Ok due) d.3
+stopped_found P stop (Err e) d = tt
+
 -- a load is done
 pub load_due : (call : Call) (load : Load) (r : Result Due Memory) → load_asked call.words ≡ Some load → IfOk r (λ due. due.status ≡ 0)
     → IfOk r (λ due. due.text ≡ summary load.seed load.packets load.workers) → IfOk r (λ due. due.ran ≡ None) → call.files_after ≡ call.files
@@ -182,7 +193,7 @@ load_due call load (Err e) is s t n same = tt
 -- the savefile was saved
 pub done_due : (call : Call) (run : Run) (input : Input) (results : Results) → AreAccepted call run input.capture input.plan.script input.plan.graphs
     → AreResultsOf input.plan (options_of run) run.hold input.capture results → HoldsBytes call.files_after run.tx results.tx → SameElsewhere call.files call.files_after run.tx
-    → IsDueOf call (record { status = 0; text = results.report; ran = Some results.end })
+    → IsDueOf call (record { status = 0; text = results.report; ran = Some results.end; found = None })
 done_due call run input results accepted are saved others = inl (
   refl,
   inl (

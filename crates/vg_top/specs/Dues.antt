@@ -21,10 +21,10 @@ use Rattle.vg_top.specs.Lossless.{IsLossless}
 use Rattle.vg_top.specs.Run.{Call, IsDone, IsEndOf, IsLoadDone, IsCheckDone, IsRefused}
 use Rattle.vg_files.specs.Refusals.{status_of, line_of}
 
--- the status and the line of the refusal, and no end of a run; nothing is due at want of memory
+-- the status and the line of the refusal, and no end of a run, nor anything found; nothing is due at want of memory
 abbrev pub IsDueFor : Stop → Due → Type 0
 IsDueFor stops.Memory due = ⊥
-IsDueFor (stops.Refused refusal) due = (due.status ≡ status_of refusal) × (due.text ≡ line_of refusal) × (due.ran ≡ None)
+IsDueFor (stops.Refused refusal) due = (due.status ≡ status_of refusal) × (due.text ≡ line_of refusal) × (due.ran ≡ None) × (due.found ≡ None)
 
 -- what options say of the output
 abbrev pub setting_in : Options → Setting

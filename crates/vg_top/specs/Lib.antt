@@ -3,6 +3,7 @@ pub mod Ended
 pub mod Run
 pub mod Lossless
 pub mod Dues
+pub mod Found
 pub mod Expected
 pub mod Reported
 pub mod Accepted

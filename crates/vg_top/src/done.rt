@@ -1,6 +1,7 @@
 //! What a call answers.
 
 use vg_barrier::MainSeat;
+use vg_differs::Finding;
 use vg_dispatch::WorkerParcel;
 use vg_engine::Rests;
 use vg_pool::Settled;
@@ -26,4 +27,7 @@ pub struct Done {
     pub status: u8,
     /// The end of the run, where one was done.
     pub ran: Option<RunEnd>,
+    /// Where what was checked differs from what is wanted, where a check answers no and its answer has such a place. Where memory runs out for that
+    /// alone, the answer is as good and nothing is found.
+    pub found: Option<Finding>,
 }

@@ -108,6 +108,7 @@ pub fn load_due<R: Wait + Threads + Sync, G: Gate>(
     ensures status { IfOk result (λ due. due.status ≡ 0) }
     ensures text { IfOk result (λ due. due.text ≡ summary_text load.now.seed load.now.packets load.now.workers) }
     ensures ran { IfOk result (λ due. due.ran ≡ None) }
+    ensures found { IfOk result (λ due. due.found ≡ None) }
 {
     let (_, handoff) = run_both(rt, alloc, load, gate)?;
     let Ok(text) = summary(alloc, load, handoff.ended as u32, handoff.buffers) else {
@@ -117,5 +118,6 @@ pub fn load_due<R: Wait + Threads + Sync, G: Gate>(
         status: 0,
         text: Bytes::from_vec(text.into_bytes()),
         ran: None,
+        found: None,
     })
 }

@@ -1,5 +1,5 @@
 //! A run: from the words to the status and the text that are due.
-ghost use Rattle.std.specs.Prelude.{◌≡◌, ◌<◌, ◌≤◌, ◌^◌, ℕ, List, [], false, length, All, None, option_map, unwrap_or, IfOk, OnErr};
+ghost use Rattle.std.specs.Prelude.{◌≡◌, ◌<◌, ◌≤◌, ◌^◌, ℕ, List, [], false, length, All, None, option_map, unwrap_or, IfOk, IfSome, OnErr};
 ghost use Rattle.vg_files.specs.Kinds.{vgd_visit};
 ghost use Rattle.vg_plan.specs.Plan.{first_generation};
 ghost use Rattle.vg_dispatch.specs.Progress.{AreInRange};
@@ -10,6 +10,7 @@ ghost use Rattle.vg_words.specs.Shown.{run_shown};
 ghost use Rattle.vg_top.specs.Command.{options_of as options_in};
 ghost use Rattle.vg_top.specs.Run.{called};
 ghost use Rattle.vg_top.specs.Dues.{IsDueOf, AreResultsOf};
+ghost use Rattle.vg_top.specs.Found.{IsFoundOf};
 
 use crate::checking::check_due;
 use crate::done::RunEnd;
@@ -167,6 +168,8 @@ pub fn run<F: Folder, G: Gate, R: Wait + Threads + Sync>(
 ) -> Result<Due, Memory>
     ensures due { IfOk result (IsDueOf (called words.now (F.contents folder.old) (F.contents folder.new) (F.faults folder.old) (F.faults folder.new))) }
     ensures memory { OnErr result (F.contents folder.new ≡ F.contents folder.old) }
+    ensures found { IfOk result (λ due. IfSome due.found
+        (IsFoundOf (called words.now (F.contents folder.old) (F.contents folder.new) (F.faults folder.old) (F.faults folder.new)) due.status)) }
 {
     let run = match read_words(alloc, words)? {
         Some(Command::Run(run)) => run,
@@ -209,6 +212,7 @@ pub fn run<F: Folder, G: Gate, R: Wait + Threads + Sync>(
             status: 0,
             text: report,
             ran: Some(end),
+            found: None,
         }),
         Err(_) => Ok(not_saved),
     }

@@ -1,9 +1,10 @@
 //! The top call.
-ghost use Rattle.std.specs.Prelude.{◌≡◌, ◌≢◌, ◌⊎◌, ◌≤◌, ℕ, List, IsSome};
+ghost use Rattle.std.specs.Prelude.{◌≡◌, ◌≢◌, ◌⊎◌, ◌≤◌, ℕ, List, IsSome, IfSome};
 ghost use Rattle.vg_outside.specs.Files.{Rose};
 ghost use Rattle.vg_files.specs.declared.refusals.Refusal.{Refusal};
 ghost use Rattle.vg_top.specs.Dues.{AreDone};
 ghost use Rattle.vg_top.specs.Expected.{IsExpected};
+ghost use Rattle.vg_top.specs.Found.{IsFoundOf};
 ghost use Rattle.vg_top.specs.Run.{called, IsDue, IsRefused};
 ghost use Rattle.vg_files.specs.Refusals.{status_of, line_of};
 ghost use Rattle.vg_files.specs.Printing.{Appends, AppendsFront};
@@ -16,8 +17,8 @@ use std::thread::Threads;
 use vg_files::print;
 use vg_outside::{Folder, Gate, Sink};
 
-/// Runs what the words after the program's name ask for, over a folder and a sink, and answers the exit status, and where it is 0 the
-/// end of the run. Workers run in threads, but where a turns file says their turns, and pass the gate at the beginning of each turn.
+/// Runs what the words after the program's name ask for, over a folder and a sink, and answers the exit status, where it is 0 the
+/// end of the run, and where it is 9 what is found of the check. Workers run in threads, but where a turns file says their turns, and pass the gate at the beginning of each turn.
 ///
 /// 0: the run is done, its savefile is saved and its report is printed; or the load is done, and its text is printed; or
 /// a check answers yes, and that is printed. 1: memory ran out, and nothing was saved or printed. 2 to 6 and 8: the call is refused, and
@@ -55,6 +56,10 @@ pub fn vgd_run<F: Folder, O: Sink, G: Gate, R: Wait + Threads + Sync>(
         × IsDue (called words.now (F.contents folder.old) (F.contents folder.new) (F.faults folder.old) (F.faults folder.new)) due line
         × AppendsFront (O.written out.old) (O.written out.new) line }
 
+    // Where something is found, a check answers no, and it is so of what was checked.
+    ensures found { IfSome result.found
+        (IsFoundOf (called words.now (F.contents folder.old) (F.contents folder.new) (F.faults folder.old) (F.faults folder.new)) result.status) }
+
     // At any other status no call of the sink failed.
     ensures quiet { result.status ≢ 7 → O.faults out.new ≡ O.faults out.old }
 
@@ -67,16 +72,19 @@ pub fn vgd_run<F: Folder, O: Sink, G: Gate, R: Wait + Threads + Sync>(
         return Done {
             status: 1,
             ran: None,
+            found: None,
         };
     };
     match print(out, due.text.as_slice()) {
         Ok(()) => Done {
             status: due.status,
             ran: due.ran,
+            found: due.found,
         },
         Err(_) => Done {
             status: 7,
             ran: None,
+            found: None,
         },
     }
 }

@@ -107,7 +107,7 @@ pub(crate) fn run_gated<R: Wait + Threads + Sync + AllocGlobal, G: Gate>(
         folder.add(name, bytes)?;
     }
     let mut out = SureSink::new(alloc);
-    let Done { status, ran } = vgd_run(rt, alloc, words, &mut folder, &mut out, gate);
+    let Done { status, ran, .. } = vgd_run(rt, alloc, words, &mut folder, &mut out, gate);
     Ok(Ran {
         status,
         printed: out.written().to_vec(alloc)?,

@@ -5,6 +5,7 @@ use std::io::ErrorKind;
 use std::process::ExitCode;
 use std::rt::Env;
 use std::{env, io};
+use vg_differs::print_finding;
 use vg_explain::{Keeping, explain_not_utf8, explain_vgd};
 use vg_outside::{OpenGate, RealFolder, RealSink};
 use vg_remarks::tell;
@@ -56,13 +57,17 @@ fn main(rt: HostRuntime) -> ExitCode {
             _ => Ok(()),
         }
     } else if are_utf8 {
-        explain_vgd(
+        let explained = explain_vgd(
             &rt,
             words.as_slice(),
             done.status,
             out.kept(),
             folder.save_error.as_ref(),
-        )
+        );
+        match &done.found {
+            Some(finding) => explained.and_then(|_| print_finding(&rt, finding)),
+            None => explained,
+        }
     } else {
         explain_not_utf8(&rt, "vgd")
     };

@@ -1,5 +1,5 @@
 use Rattle.std.proofs.Common.{◌≡◌, ◌∙◌, ap, subst, sym, inl, inr, refl}
-use Rattle.std.specs.Prelude.{Some, option_and_then, option_map, unwrap_or, []}
+use Rattle.std.specs.Prelude.{Ok, Some, option_and_then, option_map, unwrap_or, []}
 use Rattle.vg_outside.specs.Files.{FailedLoad, HoldsBytes, SameElsewhere, Rose}
 use Rattle.vg_dispatch.specs.Progress.{AreInRange}
 use Rattle.vg_engine.specs.Orders.{AreTurns}
@@ -8,12 +8,14 @@ use Rattle.vg_words.specs.Shown.{run_shown, shown}
 use Rattle.vg_words.proofs.RangeLemmas.{loads-in_range, runs-in_range}
 use Rattle.vg_files.specs.declared.refusals.Refusal.TheVariants as refusals
 use Rattle.vg_top.specs.Command.{check_in, load_in, run_asked, run_in}
+use Rattle.vg_top.specs.declared.dues.Due.{Due}
 use Rattle.vg_top.specs.Dues.{AreResultsOf}
+use Rattle.vg_top.specs.Found.{IsFoundOf}
 use Rattle.vg_files.specs.Files.{IsLoadedNext, bytes_of}
 use Rattle.vg_top.specs.Run.{Call}
 use Rattle.vg_files.specs.Stops.{IsLoadOf, IsRefusedFor}
 use Rattle.vg_files.proofs.PrintLemmas.{rose_later}
-use Rattle.vg_top.proofs.RunLemmas.{refused_due, refused_load, refused_read, accepted_read, stopped_due, done_due, load_due, save_fault}
+use Rattle.vg_top.proofs.RunLemmas.{refused_due, refused_load, refused_read, accepted_read, none_found, stopped_due, stopped_found, done_due, load_due, save_fault}
 use Rattle.vg_top.proofs.TurnLemmas.{are_turns}
 use Rattle.vg_top.proofs.WordLemmas.{in_range, load_in_range}
 use Rattle.vg_top.proofs.run.run.Goals as goal
@@ -123,3 +125,31 @@ load_due-requires-clause-workers g c κs within =
     let is = sym c.in_ok-run.ensures ∙ ap (option_map shown) (c.in-Some-Load.is ∙ ap Some c.in-Some-Load.field-0-is) in
     let range = load_in_range loads-in_range (texts c.args.words.now) _ (ap (option_and_then load_in) is) in
     (range.some_workers, range.few_workers)
+
+pub returns-in-Err-clause-found : goal.returns-in-Err-clause-found
+returns-in-Err-clause-found g c = stopped_found _ c.in-Err.stop c.stopped.result c.stopped.ensures
+
+pub returns-in-Err-read_files-clause-found : goal.returns-in-Err-read_files-clause-found
+returns-in-Err-read_files-clause-found g c = stopped_found _ c.in-Err-read_files.stop c.stopped-in-Err-read_files.result c.stopped-in-Err-read_files.ensures
+
+pub returns-clause-found : goal.returns-clause-found
+returns-clause-found g c =
+    let call : Call = record {
+      words = texts c.args.words.now;
+      files = g.F.Folder.contents c.args.folder.now;
+      files_after = g.F.Folder.contents c.save.new.self;
+      faults = g.F.Folder.faults c.args.folder.now;
+      faults_after = g.F.Folder.faults c.save.new.self;
+    } in
+    none_found (λ (due : Due). IsFoundOf call due.status) (Ok c.in_ok-not_saved.not_saved) c.in_ok-not_saved.ensures.found
+
+pub returns-in-Some-Check-clause-found : goal.returns-in-Some-Check-clause-found
+returns-in-Some-Check-clause-found g c =
+    let is = sym c.in_ok-run.ensures ∙ ap (option_map shown) (c.in-Some-Check.is ∙ ap Some c.in-Some-Check.field-0-is) in
+    c.check_due.ensures.found (texts c.args.words.now) (ap (option_and_then check_in) is)
+
+pub returns-in-None-clause-found : goal.returns-in-None-clause-found
+returns-in-None-clause-found g c = none_found _ c.refuse.result c.refuse.ensures.found
+
+pub returns-in-Some-Load-clause-found : goal.returns-in-Some-Load-clause-found
+returns-in-Some-Load-clause-found g c = none_found _ c.load_due.result c.load_due.ensures.found
