@@ -1,0 +1,3 @@
+pub mod VisitLemmas
+pub mod FrontLemmas
+pub mod WriteLemmas
