@@ -1,0 +1,10 @@
+pub mod ReadLemmas
+pub mod LineLemmas
+pub mod CountLemmas
+pub mod StoryLemmas
+pub mod StageLemmas
+pub mod ClockLemmas
+pub mod LegLemmas
+pub mod JourneyLemmas
+pub mod TableLemmas
+pub mod PrefixLemmas

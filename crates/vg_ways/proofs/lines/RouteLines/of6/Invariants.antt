@@ -1,0 +1,8 @@
+-- For `RouteLines::of6`: its loop.
+use Rattle.std.proofs.Common.{◌≡◌, take}
+use Rattle.vg_ways.specs.Lines.{lined}
+use Rattle.vg_ways.specs.LinesView.{line6_in}
+use Rattle.vg_ways.proofs.lines.RouteLines.of6.Given as goal
+
+abbrev pub invariant-loop-route : goal.invariant-loop-route
+invariant-loop-route l = l.lined.items ≡ lined (line6_in l.self) (take l.route-index l.routes)

@@ -1,0 +1,12 @@
+pub mod Events
+pub mod Entries
+pub mod Logs
+pub mod Counts
+pub mod Stages
+pub mod StagesView
+pub mod Stories
+pub mod Ways
+pub mod Clocks
+pub mod Legs
+pub mod Lines
+pub mod LinesView
