@@ -1,0 +1,12 @@
+pub mod Asked
+pub mod Filters
+pub mod Journeys
+pub mod Trips
+pub mod Sent
+pub mod Printed
+pub mod Reading
+pub mod Files
+pub mod Texts
+pub mod Run
+pub mod Expected
+pub mod Reported

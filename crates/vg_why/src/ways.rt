@@ -1,0 +1,193 @@
+//! The ways of the packets that are asked for.
+ghost use Rattle.std.specs.Prelude.{◌≡◌, ◌<◌, ◌++◌, ℕ, List, length, if◌then◌else◌, [], IfOk, OnOk};
+ghost use Rattle.vg_model.specs.Journey.{Journey};
+ghost use Rattle.vg_replay.specs.Replays.{IsInput};
+ghost use Rattle.vg_story.specs.declared.pieces.Piece.{Piece as Told};
+ghost use Rattle.vg_ways.specs.Stories.{IsStory};
+ghost use Rattle.vg_ways.specs.Ways.{way_text};
+ghost use Rattle.vg_why.specs.Asked.{asked_shown};
+ghost use Rattle.vg_why.specs.Filters.{meets as meets_all};
+ghost use Rattle.vg_why.specs.Printed.{AreWays};
+ghost use Rattle.vg_why.specs.Sent.{is_sent_at, IsWayAt};
+ghost use Rattle.vg_why.specs.Trips.{gone_of, AreTrips, AreLegsUnder, AreUnder};
+
+use crate::asks::Asked;
+use crate::filters::meets;
+use crate::journeys::went_of;
+use std::alloc::Global;
+use vg_graph::Graph;
+use vg_model::{End, Memory};
+use vg_nodes::KindSet;
+use vg_replay::{Input, Trips};
+use vg_story::{Chain, Piece};
+use vg_ways::{Clock, Place, Stages, Went, put_story, put_way};
+
+// What is kept from packet to packet.
+#[derive(Drop)]
+struct Room {
+    pieces: Vec<Piece>,
+    scratch: Vec<u8>,
+    chain: Chain,
+}
+
+// Appends the way of a packet that went so, where it meets what is asked for.
+fn put_where<K: KindSet>(
+    out: &mut Vec<u8>,
+    kinds: &K,
+    workers: u8,
+    asked: &Asked<'_>,
+    stages: &mut Stages<'_>,
+    names: &Graph,
+    place: Place,
+    went: &Went<'_>,
+    room: &mut Room,
+) -> Result<(), Memory>
+    requires workers { 0 < workers }
+    requires under { AreLegsUnder (length stages.old.plan.graphs) went.now.legs.now }
+    ensures plan { stages.new.plan ≡ stages.old.plan }
+    ensures way { OnOk result ((told : List Told) × IsStory K.meaning stages.old.plan workers went.now told
+        × (out.new.items ≡ out.old.items ++ (if meets_all names.now (asked_shown asked.now) went.now.end told
+        then way_text stages.old.plan.script names.now place went.now told else []))) }
+{
+    put_story(
+        &mut room.pieces,
+        kinds,
+        workers,
+        stages,
+        went,
+        &mut room.chain,
+    )?;
+    let pieces = room.pieces.as_slice();
+    if meets(&mut room.scratch, asked, names, went.end, pieces)? {
+        put_way(out, stages, names, place, went, pieces)?;
+    }
+    Ok(())
+}
+
+// Whether a packet that ended so was transmitted.
+fn is_sent(end: End) -> bool
+    ensures { result ≡ is_sent_at end }
+{
+    match end {
+        End::Tx { .. } => true,
+        End::Dropped { .. } => false,
+    }
+}
+
+// Forgets the generations before that of the first leg.
+fn forget(stages: &mut Stages<'_>, went: &Went<'_>)
+    ensures { stages.new.plan ≡ stages.old.plan }
+{
+    if let Some(first) = went.legs.first() {
+        stages.forget(first.generation);
+    }
+}
+
+// Appends the way of a packet, where its number is asked for.
+fn put_asked<K: KindSet>(
+    out: &mut Vec<u8>,
+    kinds: &K,
+    input: &Input<'_>,
+    asked: &Asked<'_>,
+    stages: &mut Stages<'_>,
+    names: &Graph,
+    place: Place,
+    went: &Went<'_>,
+    room: &mut Room,
+) -> Result<(), Memory>
+    requires input { IsInput input.now }
+    requires plan { stages.old.plan ≡ input.now.plan.now }
+    requires under { AreLegsUnder (length input.now.plan.now.graphs) went.now.legs.now }
+    ensures plan { stages.new.plan ≡ stages.old.plan }
+    ensures way { OnOk result ((way : List ℕ) × (out.new.items ≡ out.old.items ++ way)
+        × IsWayAt K.meaning input.now names.now (asked_shown asked.now) place went.now way) }
+{
+    if !asked.has(went.number) {
+        return Ok(());
+    }
+    put_where(
+        out,
+        kinds,
+        input.workers,
+        asked,
+        stages,
+        names,
+        place,
+        went,
+        room,
+    )
+}
+
+// The same; generations before that of its first leg are then forgotten.
+fn put_number<K: KindSet>(
+    out: &mut Vec<u8>,
+    kinds: &K,
+    input: &Input<'_>,
+    asked: &Asked<'_>,
+    stages: &mut Stages<'_>,
+    names: &Graph,
+    place: Place,
+    went: &Went<'_>,
+    room: &mut Room,
+) -> Result<(), Memory>
+    requires input { IsInput input.now }
+    requires plan { stages.old.plan ≡ input.now.plan.now }
+    requires under { AreLegsUnder (length input.now.plan.now.graphs) went.now.legs.now }
+    ensures plan { stages.new.plan ≡ stages.old.plan }
+    ensures way { OnOk result ((way : List ℕ) × (out.new.items ≡ out.old.items ++ way)
+        × IsWayAt K.meaning input.now names.now (asked_shown asked.now) place went.now way) }
+{
+    put_asked(out, kinds, input, asked, stages, names, place, went, room)?;
+    forget(stages, went);
+    Ok(())
+}
+
+/// The ways of the packets that are asked for, in the order of their numbers.
+///
+/// # Errors
+///
+/// [`Memory`] where memory runs out.
+pub(crate) fn ways<'a, K: KindSet>(
+    alloc: Global,
+    kinds: &K,
+    input: &Input<'a>,
+    trips: &'a Trips,
+    names: &Graph,
+    asked: &Asked<'_>,
+) -> Result<Vec<u8>, Memory>
+    requires input { IsInput input.now }
+    requires many { length trips.now ≡ length input.now.capture.now.packets }
+    requires under { AreUnder (length input.now.plan.now.graphs) trips.now }
+    ensures { (js : List Journey) → AreTrips (gone_of K.meaning input.now js) input.now.lines.now trips.now
+        → IfOk result (λ text. AreWays (gone_of K.meaning input.now js) names.now (asked_shown asked.now) (length trips.now) text.items) }
+{
+    let _packets = input.capture.packets.len();
+    let mut stages = Stages::new(alloc, input.plan)?;
+    let mut room = Room {
+        pieces: Vec::new(alloc),
+        scratch: Vec::new(alloc),
+        chain: Chain::new(alloc)?,
+    };
+    let mut out = Vec::new(alloc);
+    let mut clock = Clock::new(input.capture);
+    let mut index = 0;
+    for number in 0..trips.len() {
+        let went = went_of(input, trips, number as u32);
+        let time = clock.time(input.capture, number);
+        put_number(
+            &mut out,
+            kinds,
+            input,
+            asked,
+            &mut stages,
+            names,
+            Place { time, index },
+            &went,
+            &mut room,
+        )?;
+        if is_sent(went.end) {
+            index += 1;
+        }
+    }
+    Ok(out)
+}
