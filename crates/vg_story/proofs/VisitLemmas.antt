@@ -1,4 +1,4 @@
--- For `put_visits`: what is told of visits, and the packet after them, one visit more at a time.
+-- For `put_visits`: what is shown of visits, and the packet after them, one visit more at a time.
 use Rattle.std.proofs.Common.{◌≡◌, ℕ, ◌+◌, ◌<◌, List, [], ◌∷◌, ◌++◌, length, take, get_or, refl, sym, ap, ◌∙◌, append-nil, append_assoc}
 use Rattle.std.proofs.lemmas.List.{take_more}
 use Rattle.vg_model.specs.Graph.{Graph}
@@ -14,7 +14,7 @@ after_visits-push : (visit : Visit) (g : Graph) (nodes : List ℕ) (node : ℕ) 
 after_visits-push visit g [] node p = refl
 after_visits-push visit g (first ∷ nodes) node p = after_visits-push visit g nodes node (after_visit visit g first p)
 
--- what is told of one visit more
+-- what is shown of one visit more
 told_visits-push : (visit : Visit) (stage : Stage) (workers : ℕ) (nodes : List ℕ) (node : ℕ) (p : Packet)
     → told_visits visit stage workers (nodes ++ node ∷ []) p
     ≡ told_visits visit stage workers nodes p ++ told_visit visit stage workers node (after_visits visit stage.fork.graph nodes p)

@@ -77,6 +77,6 @@ number_of f fields.Ttl = time_to_live f
 number_of f fields.Checksum = checksum f
 number_of f fields.HopLimit = hop_limit f
 
--- the fields whose changes are told, in this order
+-- the fields whose changes are shown, in this order
 abbrev pub all_fields : List Field
 all_fields = fields.Destination ∷ fields.Source ∷ fields.Vlan ∷ fields.Ttl ∷ fields.Checksum ∷ fields.HopLimit ∷ []

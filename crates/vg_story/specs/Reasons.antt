@@ -1,4 +1,4 @@
--- What a visit decided by: what is told of it.
+-- What a visit decided by: what is shown of it.
 use Rattle.std.specs.Prelude.{ℕ, ◌+◌, ◌-◌, ◌/◌, ◌%◌, Bool, false, ◌==◌, nat_lt, List, [], ◌∷◌, ◌++◌, length, slice_get, Option, Some, None, option_and_then, unwrap_or, if◌then◌else◌}
 use Rattle.vg_model.specs.declared.kinds.DropError.{DropError}
 use Rattle.vg_model.specs.declared.kinds.DropError.TheVariants as errors
@@ -153,7 +153,7 @@ rewrite stage length ttl step after =
 abbrev pub leaves_on : Graph → Option ℕ → ℕ
 leaves_on g interface = unwrap_or (option_and_then (λ i. if nat_lt i (length g.interfaces) then Some i else None) interface) 0
 
--- that interface is told
+-- that interface is shown
 abbrev pub leaving : Graph → Packet → List Piece
 leaving g p = fact words.On (values.Interface (leaves_on g p.interface))
 

@@ -1,4 +1,4 @@
--- The text of what is told of packets.
+-- The text of what is shown of packets.
 use Rattle.std.specs.Prelude.{ℕ, ◌/◌, ◌%◌, List, [], ◌∷◌, ◌++◌, map, flat_map, drop, slice_get, codes, decimal, option_map, unwrap_or}
 use Rattle.std.specs.Int.{w64, to_be_bytes}
 use Rattle.std.specs.List.{join_with_byte}

@@ -1,4 +1,4 @@
--- What is told of a packet's visits.
+-- What is shown of a packet's visits.
 use Rattle.std.specs.Prelude.{ℕ, List, [], ◌∷◌, ◌++◌, Option, Some, None}
 use Rattle.vg_model.specs.declared.kinds.Kind.{Kind}
 use Rattle.vg_model.specs.declared.kinds.Kind.TheVariants as kinds
@@ -33,17 +33,17 @@ abbrev pub after_visits : Visit → Graph → List ℕ → Packet → Packet
 after_visits visit g [] p = p
 after_visits visit g (node ∷ nodes) p = after_visits visit g nodes (after_visit visit g node p)
 
--- what is told of a visit by a kind: what it decided by, and what it changed
+-- what is shown of a visit by a kind: what it decided by, and what it changed
 abbrev pub told_by : Stage → (workers : ℕ) → Packet → Step × Packet → Option Kind → List Piece
 told_by stage workers p after None = []
 told_by stage workers p after (Some kind) = reasons stage workers kind (front_of p) after.0 after.1 ++ changes (front_of p) (front_of after.1)
 
--- what is told of a visit of a node
+-- what is shown of a visit of a node
 abbrev pub told_visit : Visit → Stage → (workers node : ℕ) → Packet → List Piece
 told_visit visit stage workers node p =
     pieces.Visit node ∷ told_by stage workers p (visit stage.fork.graph node p) (visited_kind (kind_at stage.fork.graph node))
 
--- what is told of visits of these nodes, one after the other
+-- what is shown of visits of these nodes, one after the other
 abbrev pub told_visits : Visit → Stage → (workers : ℕ) → List ℕ → Packet → List Piece
 told_visits visit stage workers [] p = []
 told_visits visit stage workers (node ∷ nodes) p =

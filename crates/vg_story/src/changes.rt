@@ -7,7 +7,7 @@ use crate::fronts::Front;
 use crate::pieces::{Field, Piece};
 use std::alloc::AllocError;
 
-/// The fields whose changes are told, in this order.
+/// The fields whose changes are shown, in this order.
 const FIELDS: [Field; 6] = [
     Field::Destination,
     Field::Source,

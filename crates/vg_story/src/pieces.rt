@@ -1,4 +1,4 @@
-//! What is told of a packet's visits.
+//! What is shown of a packet's visits.
 
 use vg_model::{DropError, Prefix, Prefix6};
 
@@ -87,7 +87,7 @@ pub enum Field {
     HopLimit,
 }
 
-/// A piece of what is told of a packet's visits.
+/// A piece of what is shown of a packet's visits.
 #[derive(Clone, Copy, Debug, PartialEq, Eq)]
 pub enum Piece {
     /// The next leg begins: on this worker, under this generation.

@@ -1,11 +1,11 @@
 -- For `numbers` and `all_from`: what words say, one word or one condition more at a time.
-use Rattle.std.proofs.Common.{◌≡◌, ℕ, ◌+◌, ◌<◌, ◌≤◌, List, [], ◌∷◌, ◌++◌, length, drop, get_or, refl, sym, ap, ◌∙◌, append-nil, append_assoc, arith}
+use Rattle.std.proofs.Common.{◌≡◌, ℕ, ◌+◌, ◌<◌, ◌≤◌, List, [], ◌∷◌, ◌++◌, length, drop, refl, sym, ap, ◌∙◌, append-nil, append_assoc, arith}
 use Rattle.std.specs.Prelude.{Option, Some, None, option_map, option_and_then}
 use Rattle.std.specs.Borrow.{Bor}
-use Rattle.std.proofs.lemmas.List.{drop_more, drop_all}
+use Rattle.std.proofs.lemmas.List.{drop_all}
 use Rattle.vg_words.specs.Command.{Text, texts}
 use Rattle.vg_words.proofs.CheckLemmas.{word_at, next_word}
-use Rattle.vg_why.specs.Asked.{Filter, Ask, Asked, All, packet_number, numbers_of, with_condition, all_from, files_of}
+use Rattle.vg_why.specs.Asked.{Filter, All, packet_number, numbers_of, with_condition, all_from, files_of}
 
 -- ---- numbers
 

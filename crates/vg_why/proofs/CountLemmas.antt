@@ -1,6 +1,6 @@
 -- For `entries_of_all` and `counts`: what is counted of packets, one more at a time, and what it comes to.
-use Rattle.std.proofs.Common.{◌≡◌, ℕ, zero, suc, ◌+◌, ◌-◌, ◌<◌, ◌≤◌, Bool, true, false, cond, List, [], ◌∷◌, ◌++◌, length, take, get_or, refl, sym, ap, ap₂, subst, ◌∙◌, arith, add-one, zero-add}
-use Rattle.std.specs.Prelude.{Option, Some, None, nat_lt, slice_get, option_map, unwrap_or, count_by, if◌then◌else◌}
+use Rattle.std.proofs.Common.{◌≡◌, ℕ, zero, suc, ◌+◌, ◌-◌, ◌<◌, Bool, true, false, cond, List, [], ◌∷◌, ◌++◌, length, take, refl, sym, ap, ap₂, subst, ◌∙◌, arith, add-one, zero-add}
+use Rattle.std.specs.Prelude.{Option, Some, None, nat_lt, slice_get, option_map, unwrap_or, count_by}
 use Rattle.std.specs.List.{sum_by, AllByRecursion}
 use Rattle.std.proofs.lemmas.Bool.Decides.{nat_tests}
 use Rattle.std.proofs.lemmas.List.{take_all}
@@ -12,7 +12,7 @@ use Rattle.vg_model.specs.declared.fates.Leg.{Leg}
 use Rattle.vg_model.specs.declared.kinds.DropError.{DropError}
 use Rattle.vg_model.specs.declared.routes.Prefix.{Prefix}
 use Rattle.vg_model.specs.declared.routes.Prefix6.{Prefix6}
-use Rattle.vg_model.specs.Count.{is_drop, is_sent_on, error_count, interface_count}
+use Rattle.vg_model.specs.Count.{is_drop, is_sent_on}
 use Rattle.vg_model.specs.Graph.{Graph}
 use Rattle.vg_model.specs.Journey.{Journey, end_of}
 use Rattle.vg_model.proofs.LegEnds.{all_at}
@@ -29,7 +29,7 @@ use Rattle.vg_ways.specs.Counts.{counts_text}
 use Rattle.vg_ways.specs.Entries.{entries_of, match_by, matches, end_entries, last_via, first_generation, last_generation, is_began, is_tx, is_dropped}
 use Rattle.vg_ways.specs.Logs.{under, within, all_of, total, CountsAddUp}
 use Rattle.vg_ways.proofs.CountLemmas.{within_cons}
-use Rattle.vg_why.specs.Journeys.{Gone, IsGone, IsTold, AreEntries}
+use Rattle.vg_why.specs.Journeys.{Gone, IsTold, AreEntries}
 use Rattle.vg_why.specs.Printed.{AreCounts}
 use Rattle.vg_why.specs.Trips.{AreLegsUnder}
 

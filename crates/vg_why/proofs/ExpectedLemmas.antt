@@ -1,6 +1,6 @@
 -- For `why_run`, clause `exactly`: what comes of a call is what is to be expected.
 use Rattle.std.proofs.Common.{◌≡◌, ℕ, ◌+◌, true, false, List, length, take, sym, ap, subst, ◌∙◌, inl, inr}
-use Rattle.std.specs.Prelude.{◌⊎◌, Option, Some, None, Result, Ok, Err, IsSome, IsSomeAnd, IfOk, IfErr}
+use Rattle.std.specs.Prelude.{◌⊎◌, Option, Some, None, Result, Ok, Err, IsSome, IsSomeAnd}
 use Rattle.std.proofs.lemmas.Bool.{false≢true}
 use Rattle.std.proofs.lemmas.Option.{none-some, same_Some}
 use Rattle.vg_model.specs.Journey.{Journey}
@@ -22,7 +22,6 @@ use Rattle.vg_check.specs.Verdicts.{Case, task_by, IsHeaded}
 use Rattle.vg_files.specs.Checks.{CheckBytes, AreInputs, largest_output}
 use Rattle.vg_files.specs.Plan.{graphs_of, MakesPlan}
 use Rattle.vg_files.specs.Refusals.{status_of}
-use Rattle.vg_files.specs.Stops.{OnRefusal}
 use Rattle.vg_files.specs.declared.refusals.Refusal.{Refusal}
 use Rattle.vg_files.specs.declared.refusals.Refusal.TheVariants as refusals
 use Rattle.vg_files.specs.declared.refusals.Stop.{Stop}

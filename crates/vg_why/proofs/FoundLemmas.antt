@@ -1,25 +1,23 @@
 -- For `text_of`, `journeys_told`, `report_told` and `found`: from a replay to what is found of a call's files.
-use Rattle.std.proofs.Common.{◌≡◌, ℕ, ◌+◌, ◌-◌, ◌<◌, ◌≤◌, Bool, true, false, List, [], ◌∷◌, length, map, take, refl, sym, ap, subst, ◌∙◌, inl, inr, arith}
-use Rattle.std.specs.Prelude.{Option, Some, slice_get, Result, Ok, Err}
+use Rattle.std.proofs.Common.{◌≡◌, ℕ, true, List, [], ◌∷◌, length, map, refl, sym, ap, ◌∙◌, arith}
+use Rattle.std.specs.Prelude.{Result, Ok, Err}
 use Rattle.std.specs.List.{AllByRecursion}
 use Rattle.std.proofs.lemmas.List.{take_all, length-map}
 use Rattle.vg_model.specs.declared.fates.Leg.{Leg}
-use Rattle.vg_model.specs.Graph.{Graph}
 use Rattle.vg_model.specs.Journey.{Course, Journey, Choice}
 use Rattle.vg_model.specs.Lawful.{StartsAt, NeverFall}
 use Rattle.vg_capture.specs.declared.captures.Capture.{Capture}
 use Rattle.vg_plan.specs.Plan.{Planned}
 use Rattle.vg_report.specs.declared.reports.PacketLine.{PacketLine}
 use Rattle.vg_report.specs.declared.reports.Report.{Report}
-use Rattle.vg_report.specs.Reading as reading
 use Rattle.vg_replay.specs.declared.inputs.Input.{Input}
 use Rattle.vg_replay.specs.declared.replaying.Replayed.{Replayed}
-use Rattle.vg_replay.specs.Replays.{task_of, told, AreReplayed, IsInput}
-use Rattle.vg_replay.specs.Tasks.{Task, AreTaken, choice_of}
+use Rattle.vg_replay.specs.Replays.{task_of, AreReplayed, IsInput}
+use Rattle.vg_replay.specs.Tasks.{Task, choice_of}
 use Rattle.vg_replay.proofs.ReplayLemmas.{as_many_journeys}
 use Rattle.vg_check.specs.declared.verdicts.Verdict.{Verdict}
 use Rattle.vg_check.specs.declared.verdicts.Verdict.TheVariants as verdicts
-use Rattle.vg_check.specs.Verdicts.{Case, AreTravelled, IsHeaded, IsVerdict, task_by}
+use Rattle.vg_check.specs.Verdicts.{Case, IsHeaded, task_by}
 use Rattle.vg_check.proofs.JourneyLemmas.{chosen, chosen_are}
 use Rattle.vg_check.proofs.ToldLemmas.{as_many}
 use Rattle.vg_files.specs.Checks.{CheckBytes, AreInputs, inputs_in}
@@ -28,11 +26,9 @@ use Rattle.vg_files.specs.Stops.{IsRefusedFor}
 use Rattle.vg_files.specs.declared.refusals.Refusal.{Refusal}
 use Rattle.vg_files.specs.declared.refusals.Refusal.TheVariants as refusals
 use Rattle.vg_why.specs.Asked.{Asked, are_below}
-use Rattle.vg_why.specs.Files.{IsFound, IsBeyond, IsRefusedBy, IsNoJourney, case_in}
-use Rattle.vg_why.specs.Journeys.{Gone}
-use Rattle.vg_why.specs.Printed.{IsPrinted}
+use Rattle.vg_why.specs.Files.{IsFound, IsRefusedBy, IsNoJourney, case_in}
 use Rattle.vg_why.specs.Reading.{IsReportRefusal, IsTextRefusal}
-use Rattle.vg_why.specs.Texts.{case_with, IsTextOf, IsToldOf, IsToldBy, IsUntold, IsUntoldBy, IsChoiceFault, IsChoiceRefusal}
+use Rattle.vg_why.specs.Texts.{IsToldOf, IsToldBy, IsUntold, IsUntoldBy, IsChoiceFault, IsChoiceRefusal}
 use Rattle.vg_why.specs.Trips.{gone_of, AreTrips, AreLegsUnder, AreUnder}
 use Rattle.vg_why.proofs.TripLemmas.{trips_under}
 

@@ -1,7 +1,7 @@
 -- For `why` and `why_run`: refusals of a call, and what is due.
-use Rattle.std.proofs.Common.{◌≡◌, ℕ, ◌+◌, ◌≤◌, List, refl, sym, ap, subst, ◌∙◌, inl, inr, arith}
-use Rattle.std.specs.Prelude.{◌⊎◌, Option, Some, None, Result, Ok, Err, IfOk, IfErr}
-use Rattle.vg_outside.specs.Files.{Files, FailedLoad}
+use Rattle.std.proofs.Common.{◌≡◌, ℕ, ◌≤◌, List, sym, subst, ◌∙◌, inl, inr, arith}
+use Rattle.std.specs.Prelude.{Some, Result, Ok, Err, IfOk, IfErr}
+use Rattle.vg_outside.specs.Files.{FailedLoad}
 use Rattle.vg_files.specs.Checks.{CheckBytes}
 use Rattle.vg_files.specs.Refusals.{status_of, line_of}
 use Rattle.vg_files.specs.Stops.{OnRefusal, IsLoadOf}
@@ -11,8 +11,8 @@ use Rattle.vg_files.specs.declared.refusals.Stop.{Stop}
 use Rattle.vg_files.specs.declared.refusals.Stop.TheVariants as stops
 use Rattle.vg_why.specs.declared.top.Due.{Due}
 use Rattle.vg_why.specs.Asked.{Ask, asked}
-use Rattle.vg_why.specs.Files.{AreLoaded, IsLoadedNext, IsFound, IsRefusedBy}
-use Rattle.vg_why.specs.Run.{Call, IsWhy, IsRefused, IsRefusedWith, IsDue, IsDueFor}
+use Rattle.vg_why.specs.Files.{AreLoaded, IsLoadedNext, IsRefusedBy}
+use Rattle.vg_why.specs.Run.{Call, IsWhy, IsRefused, IsDue, IsDueFor}
 
 -- a fact of all refusals of one kind holds of those of another
 pub on_refusal : (P Q : Refusal → Type 0) (stop : Stop) → ((refusal : Refusal) → P refusal → Q refusal) → OnRefusal P stop → OnRefusal Q stop

@@ -1,8 +1,6 @@
 -- The journeys of packets, and what is shown of them.
-use Rattle.std.specs.Prelude.{◌≡◌, ℕ, zero, suc, ◌+◌, ◌<◌, List, [], ◌++◌, length, map, take, slice_get, Option, Some, option_map}
-use Rattle.std.specs.List.{AllByRecursion}
-use Rattle.vg_model.specs.declared.fates.Leg.{Leg}
-use Rattle.vg_model.specs.Journey.{Course, Journey, end_of, sent}
+use Rattle.std.specs.Prelude.{◌≡◌, ℕ, zero, suc, List, [], ◌++◌, length, take, slice_get, Some, option_map}
+use Rattle.vg_model.specs.Journey.{Journey, end_of, sent}
 use Rattle.vg_model.specs.Visit.{Visit}
 use Rattle.vg_capture.specs.declared.captures.Capture.{Capture}
 use Rattle.vg_capture.specs.declared.captures.Captured.{Captured}

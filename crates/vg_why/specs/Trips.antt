@@ -6,7 +6,7 @@ use Rattle.vg_model.specs.Journey.{Course, Journey}
 use Rattle.vg_model.specs.Visit.{Visit}
 use Rattle.vg_report.specs.declared.reports.PacketLine.{PacketLine}
 use Rattle.vg_replay.specs.declared.inputs.Input.{Input}
-use Rattle.vg_replay.specs.Replays.{Told, told}
+use Rattle.vg_replay.specs.Replays.{told}
 use Rattle.vg_why.specs.Journeys.{Gone}
 
 -- what was taken through, with these journeys

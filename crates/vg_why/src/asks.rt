@@ -123,52 +123,40 @@ fn with_condition<'a>(filter: Filter<'a>, word: &str, value: &'a str) -> Option<
     ensures { option_map specs.filter_shown result ≡ specs.with_condition (specs.filter_shown filter.entry) word.now value.entry.now }
 {
     if word == "--drop" {
-        return match error_named(value.as_bytes()) {
-            Some(error) => Some(Filter {
-                drop: Some(error),
-                ..filter
-            }),
-            None => None,
-        };
+        let error = error_named(value.as_bytes())?;
+        return Some(Filter {
+            drop: Some(error),
+            ..filter
+        });
     }
     if word == "--via" {
-        return match name_of(value) {
-            Some(name) => Some(Filter {
-                via: Some(name),
-                ..filter
-            }),
-            None => None,
-        };
+        let name = name_of(value)?;
+        return Some(Filter {
+            via: Some(name),
+            ..filter
+        });
     }
     if word == "--route" {
-        return match name_of(value) {
-            Some(name) => Some(Filter {
-                route: Some(name),
-                ..filter
-            }),
-            None => None,
-        };
+        let name = name_of(value)?;
+        return Some(Filter {
+            route: Some(name),
+            ..filter
+        });
     }
     if word == "--node" {
-        return match name_of(value) {
-            Some(name) => Some(Filter {
-                node: Some(name),
-                ..filter
-            }),
-            None => None,
-        };
+        let name = name_of(value)?;
+        return Some(Filter {
+            node: Some(name),
+            ..filter
+        });
     }
     if word == "--from" {
-        return match packet_number(value) {
-            Some(from) => Some(Filter { from, ..filter }),
-            None => None,
-        };
+        let from = packet_number(value)?;
+        return Some(Filter { from, ..filter });
     }
     if word == "--to" {
-        return match packet_number(value) {
-            Some(to) => Some(Filter { to, ..filter }),
-            None => None,
-        };
+        let to = packet_number(value)?;
+        return Some(Filter { to, ..filter });
     }
     None
 }

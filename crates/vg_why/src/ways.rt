@@ -22,9 +22,11 @@ use vg_replay::{Input, Trips};
 use vg_story::{Chain, Piece};
 use vg_ways::{Clock, Place, Stages, Went, put_story, put_way};
 
-// What is kept from packet to packet.
+// What is printed so far, and what is kept from packet to packet.
 #[derive(Drop)]
-struct Room {
+struct Room<'a> {
+    out: Vec<u8>,
+    stages: Stages<'a>,
     pieces: Vec<Piece>,
     scratch: Vec<u8>,
     chain: Chain,
@@ -32,34 +34,32 @@ struct Room {
 
 // Appends the way of a packet that went so, where it meets what is asked for.
 fn put_where<K: KindSet>(
-    out: &mut Vec<u8>,
+    room: &mut Room<'_>,
     kinds: &K,
     workers: u8,
     asked: &Asked<'_>,
-    stages: &mut Stages<'_>,
     names: &Graph,
     place: Place,
     went: &Went<'_>,
-    room: &mut Room,
 ) -> Result<(), Memory>
     requires workers { 0 < workers }
-    requires under { AreLegsUnder (length stages.old.plan.graphs) went.now.legs.now }
-    ensures plan { stages.new.plan ≡ stages.old.plan }
-    ensures way { OnOk result ((told : List Told) × IsStory K.meaning stages.old.plan workers went.now told
-        × (out.new.items ≡ out.old.items ++ (if meets_all names.now (asked_shown asked.now) went.now.end told
-        then way_text stages.old.plan.script names.now place went.now told else []))) }
+    requires under { AreLegsUnder (length room.old.stages.plan.graphs) went.now.legs.now }
+    ensures plan { room.new.stages.plan ≡ room.old.stages.plan }
+    ensures way { OnOk result ((told : List Told) × IsStory K.meaning room.old.stages.plan workers went.now told
+        × (room.new.out.items ≡ room.old.out.items ++ (if meets_all names.now (asked_shown asked.now) went.now.end told
+        then way_text room.old.stages.plan.script names.now place went.now told else []))) }
 {
     put_story(
         &mut room.pieces,
         kinds,
         workers,
-        stages,
+        &mut room.stages,
         went,
         &mut room.chain,
     )?;
     let pieces = room.pieces.as_slice();
     if meets(&mut room.scratch, asked, names, went.end, pieces)? {
-        put_way(out, stages, names, place, went, pieces)?;
+        put_way(&mut room.out, &room.stages, names, place, went, pieces)?;
     }
     Ok(())
 }
@@ -85,60 +85,46 @@ fn forget(stages: &mut Stages<'_>, went: &Went<'_>)
 
 // Appends the way of a packet, where its number is asked for.
 fn put_asked<K: KindSet>(
-    out: &mut Vec<u8>,
+    room: &mut Room<'_>,
     kinds: &K,
     input: &Input<'_>,
     asked: &Asked<'_>,
-    stages: &mut Stages<'_>,
     names: &Graph,
     place: Place,
     went: &Went<'_>,
-    room: &mut Room,
 ) -> Result<(), Memory>
     requires input { IsInput input.now }
-    requires plan { stages.old.plan ≡ input.now.plan.now }
+    requires plan { room.old.stages.plan ≡ input.now.plan.now }
     requires under { AreLegsUnder (length input.now.plan.now.graphs) went.now.legs.now }
-    ensures plan { stages.new.plan ≡ stages.old.plan }
-    ensures way { OnOk result ((way : List ℕ) × (out.new.items ≡ out.old.items ++ way)
+    ensures plan { room.new.stages.plan ≡ room.old.stages.plan }
+    ensures way { OnOk result ((way : List ℕ) × (room.new.out.items ≡ room.old.out.items ++ way)
         × IsWayAt K.meaning input.now names.now (asked_shown asked.now) place went.now way) }
 {
     if !asked.has(went.number) {
         return Ok(());
     }
-    put_where(
-        out,
-        kinds,
-        input.workers,
-        asked,
-        stages,
-        names,
-        place,
-        went,
-        room,
-    )
+    put_where(room, kinds, input.workers, asked, names, place, went)
 }
 
 // The same; generations before that of its first leg are then forgotten.
 fn put_number<K: KindSet>(
-    out: &mut Vec<u8>,
+    room: &mut Room<'_>,
     kinds: &K,
     input: &Input<'_>,
     asked: &Asked<'_>,
-    stages: &mut Stages<'_>,
     names: &Graph,
     place: Place,
     went: &Went<'_>,
-    room: &mut Room,
 ) -> Result<(), Memory>
     requires input { IsInput input.now }
-    requires plan { stages.old.plan ≡ input.now.plan.now }
+    requires plan { room.old.stages.plan ≡ input.now.plan.now }
     requires under { AreLegsUnder (length input.now.plan.now.graphs) went.now.legs.now }
-    ensures plan { stages.new.plan ≡ stages.old.plan }
-    ensures way { OnOk result ((way : List ℕ) × (out.new.items ≡ out.old.items ++ way)
+    ensures plan { room.new.stages.plan ≡ room.old.stages.plan }
+    ensures way { OnOk result ((way : List ℕ) × (room.new.out.items ≡ room.old.out.items ++ way)
         × IsWayAt K.meaning input.now names.now (asked_shown asked.now) place went.now way) }
 {
-    put_asked(out, kinds, input, asked, stages, names, place, went, room)?;
-    forget(stages, went);
+    put_asked(room, kinds, input, asked, names, place, went)?;
+    forget(&mut room.stages, went);
     Ok(())
 }
 
@@ -162,32 +148,23 @@ pub(crate) fn ways<'a, K: KindSet>(
         → IfOk result (λ text. AreWays (gone_of K.meaning input.now js) names.now (asked_shown asked.now) (length trips.now) text.items) }
 {
     let _packets = input.capture.packets.len();
-    let mut stages = Stages::new(alloc, input.plan)?;
     let mut room = Room {
+        out: Vec::new(alloc),
+        stages: Stages::new(alloc, input.plan)?,
         pieces: Vec::new(alloc),
         scratch: Vec::new(alloc),
         chain: Chain::new(alloc)?,
     };
-    let mut out = Vec::new(alloc);
     let mut clock = Clock::new(input.capture);
     let mut index = 0;
     for number in 0..trips.len() {
         let went = went_of(input, trips, number as u32);
         let time = clock.time(input.capture, number);
-        put_number(
-            &mut out,
-            kinds,
-            input,
-            asked,
-            &mut stages,
-            names,
-            Place { time, index },
-            &went,
-            &mut room,
-        )?;
+        let place = Place { time, index };
+        put_number(&mut room, kinds, input, asked, names, place, &went)?;
         if is_sent(went.end) {
             index += 1;
         }
     }
-    Ok(out)
+    Ok(room.out)
 }

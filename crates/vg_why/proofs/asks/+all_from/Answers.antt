@@ -1,5 +1,5 @@
 -- For `all_from`: one condition more, and the files.
-use Rattle.std.proofs.Common.{◌≡◌, ◌≤◌, ◌<◌, ◌-◌, ◌∙◌, ap, sym, length, take, drop, arith, length-drop}
+use Rattle.std.proofs.Common.{◌≡◌, ◌-◌, ◌∙◌, ap, sym, length, take, drop, arith, length-drop}
 use Rattle.std.proofs.lemmas.List.{take_all}
 use Rattle.vg_words.specs.Command.{texts}
 use Rattle.vg_why.specs.Asked.{Filter, filter_shown, all_from}

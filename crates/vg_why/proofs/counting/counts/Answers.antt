@@ -1,5 +1,5 @@
 -- For `counts`: its clause.
-use Rattle.std.proofs.Common.{◌≡◌, ◌<◌, ◌++◌, length, sym, ap, subst, ◌∙◌, arith}
+use Rattle.std.proofs.Common.{◌<◌, ◌++◌, length, ap, subst, ◌∙◌, arith}
 use Rattle.vg_check.proofs.ToldLemmas.{as_many}
 use Rattle.vg_ways.specs.Counts.{counts_text}
 use Rattle.vg_why.specs.Journeys.{Gone, AreEntries}

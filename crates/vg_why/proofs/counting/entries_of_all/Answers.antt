@@ -1,5 +1,5 @@
 -- For `entries_of_all`: its loop, its clause.
-use Rattle.std.proofs.Common.{◌≡◌, length, refl, subst, ◌∙◌, arith}
+use Rattle.std.proofs.Common.{◌≡◌, length, subst, ◌∙◌, arith}
 use Rattle.vg_plan.specs.Plan.{Planned}
 use Rattle.vg_ways.specs.Stories.{IsStory}
 use Rattle.vg_why.specs.Journeys.{Gone, IsGone, IsTold, AreEntries}

@@ -1,5 +1,5 @@
 -- For `found`: its clauses `stop` and `text`.
-use Rattle.std.proofs.Common.{refl, subst}
+use Rattle.std.proofs.Common.{subst}
 use Rattle.std.specs.Prelude.{IfOk, IfErr}
 use Rattle.std.proofs.lemmas.Result.{IfOk-weaker, IfErr-weaker}
 use Rattle.vg_files.specs.Checks.{CheckBytes, AreInputs, inputs_in}

@@ -1,5 +1,5 @@
 -- For `load_why`: its clause `stop`.
-use Rattle.std.proofs.Common.{◌≡◌, ℕ, ◌+◌, ◌≤◌, List, refl, subst, ◌∙◌, inl, inr, arith}
+use Rattle.std.proofs.Common.{◌≡◌, ℕ, ◌+◌, ◌≤◌, List, refl, subst, ◌∙◌, inr, arith}
 use Rattle.std.proofs.lemmas.Result.{err_from_is_err_and}
 use Rattle.vg_outside.specs.Files.{FirstBytes, FailedLoad}
 use Rattle.vg_capture.specs.Savefile.{largest_file}

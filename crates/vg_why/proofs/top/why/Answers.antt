@@ -1,6 +1,6 @@
 -- For `why`: its clauses `stop` and `text`.
 use Rattle.std.proofs.Common.{◌≡◌, sym, ap, ◌∙◌, inl, refl}
-use Rattle.std.specs.Prelude.{Some, None, option_map}
+use Rattle.std.specs.Prelude.{Some, option_map}
 use Rattle.std.proofs.lemmas.Result.{IfOk-weaker, IfErr-weaker}
 use Rattle.vg_outside.specs.Files.{FailedLoad}
 use Rattle.vg_words.specs.Command.{texts}

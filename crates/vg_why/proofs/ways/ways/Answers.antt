@@ -11,11 +11,11 @@ use Rattle.vg_why.proofs.ways.ways.Goals.{then-is_sent, else-is_sent}
 
 pub loop-number-init : goal.loop-number-init
 loop-number-init g c = record {
-  plan = c.in_ok-stages.ensures.plan;
+  plan = c.in_ok-new.ensures.plan;
   first = c.new-clock.ensures.first;
   latest = c.new-clock.ensures.latest;
   few = omega arith;
-  text = λ js are. record { ways = c.new-out.ensures.items; index_is = refl };
+  text = λ js are. record { ways = c.new.ensures.items; index_is = refl };
 }
 
 pub loop-number-preserved : goal.loop-number-preserved
@@ -41,7 +41,7 @@ loop-number-preserved g c =
           let so_far = c.loop-number.invariant.text js are in
           record {
             ways = subst (AreWays gone c.args.names.now asked (number + 1)) (sym way.1)
-                (way_more {gone = gone} {names = c.args.names.now} {asked = asked} {number = number} {before = c.loop-number.out.items} {way = way.0} (record {
+                (way_more {gone = gone} {names = c.args.names.now} {asked = asked} {number = number} {before = c.loop-number.room.out.items} {way = way.0} (record {
                   ways = so_far.ways;
                   next = way_where {visit = visit} c.args.input.now {js = js} c.args.names.now asked way.0
                       (record { is = is; place_is = λ i. record { time = c.time-time.ensures.time i; index = so_far.index_is i } }) way.2;
@@ -54,5 +54,5 @@ pub returns : goal.returns
 returns g c = λ js are.
     let all : c.loop-number.number ≡ length c.args.trips.now =
     (let most = c.loop-number.auto.number-end in let least = c.loop-number-test.false in let count = c.len-number-end.ensures in omega (arith, most, least, count)) in
-    subst (λ n. AreWays (gone_of g.K.KindSet.meaning c.args.input.now js) c.args.names.now (asked_shown c.args.asked.now) n c.loop-number.out.items) all
+    subst (λ n. AreWays (gone_of g.K.KindSet.meaning c.args.input.now js) c.args.names.now (asked_shown c.args.asked.now) n c.loop-number.room.out.items) all
     (c.loop-number.invariant.text js are).ways

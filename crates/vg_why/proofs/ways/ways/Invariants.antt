@@ -11,10 +11,10 @@ use Rattle.vg_why.proofs.ways.ways.Given as goal
 -- the ways of the packets so far, and how many of them were transmitted
 abbrev pub invariant-loop-number : goal.invariant-loop-number
 invariant-loop-number g l = record {
-  plan : l.stages.plan ≡ l.input.plan.now;
+  plan : l.room.stages.plan ≡ l.input.plan.now;
   first : l.clock.first ≡ stamp_at l.input.capture.now 0;
   latest : l.clock.latest ≡ latest_before l.input.capture.now l.number;
   few : l.index ≤ l.number;
   text : (js : List Journey) → AreTrips (gone_of g.K.KindSet.meaning l.input js) l.input.lines.now l.trips
-      → AreSoFar (gone_of g.K.KindSet.meaning l.input js) l.names (asked_shown l.asked) l.number l.index l.out.items;
+      → AreSoFar (gone_of g.K.KindSet.meaning l.input js) l.names (asked_shown l.asked) l.number l.index l.room.out.items;
 }
