@@ -1,18 +1,14 @@
-//! What a check loads, and its verdict.
+//! What a check loads.
 ghost use Rattle.std.specs.Prelude.{◌≡◌, IfOk, IfErr};
 ghost use Rattle.vg_outside.specs.Files.{FailedLoad};
 ghost use Rattle.vg_words.specs.Shown.{check_shown};
-ghost use Rattle.vg_files.specs.Checks.{AreFirstChecked, IsCheckedNext, IsJudged, bytes_checked, inputs_in};
-ghost use Rattle.vg_files.specs.Stops.{OnRefusal, IsLoadOf, IsRefusedFor};
+ghost use Rattle.vg_files.specs.Checks.{AreFirstChecked, IsCheckedNext, bytes_checked};
+ghost use Rattle.vg_files.specs.Stops.{OnRefusal, IsLoadOf};
 
-use crate::kinds::KINDS;
-use crate::loading::{Files, load_file};
-use crate::reading::{Input, read_files};
+use crate::loading::load_file;
 use crate::refusals::Stop;
-use std::alloc::Global;
 use vg_capture::LARGEST_FILE;
-use vg_check::{Verdict, check as verdict_on};
-use vg_model::{Bytes, Memory};
+use vg_model::Bytes;
 use vg_outside::Folder;
 use vg_script::LARGEST_SCRIPT;
 use vg_words::Check;
@@ -49,38 +45,4 @@ pub fn load_checked<'a, F: Folder>(
         tx,
         report,
     })
-}
-
-/// The verdict on a check's savefile and report, with so many slots in a queue; or why its capture or its script is refused.
-pub fn judge<'a>(alloc: Global, files: CheckFiles, queue: u64) -> Result<Verdict, Stop<'a>>
-    ensures verdict { IfOk result (IsJudged queue (bytes_checked files)) }
-    ensures stop { IfErr result (OnRefusal (IsRefusedFor 1 (inputs_in (bytes_checked files)))) }
-{
-    let CheckFiles {
-        capture,
-        script,
-        tx,
-        report,
-    } = files;
-    let inputs = Files {
-        capture,
-        script,
-        turns: None,
-    };
-    let Input { capture, plan, .. } = match read_files(alloc, inputs, 1) {
-        Ok(input) => input,
-        Err(stop) => return Err(stop),
-    };
-    match verdict_on(
-        alloc,
-        &plan,
-        &capture,
-        queue,
-        &KINDS,
-        tx.as_slice(),
-        report.as_slice(),
-    ) {
-        Ok(verdict) => Ok(verdict),
-        Err(Memory) => Err(Stop::Memory),
-    }
 }

@@ -1,8 +1,8 @@
-//! The files of a call: how they are loaded and read, what a check finds in its own, why a call is refused, and how its text is printed.
+//! The files of a call: how they are loaded and read, why a call is refused, and how its text is printed.
 //!
 //! [`load_files`] loads the capture, the script and the turns file of a run, and [`read_files`] says what they say, or why they are
-//! refused; [`load_checked`] and [`judge`] do the same for a check. [`Refusal`] has the exit status and the line of each refusal, and
-//! [`print`] writes a whole text to a sink. [`KINDS`] are the kinds of nodes that runs and checks visit.
+//! refused; [`load_checked`] loads what a check reads. [`Refusal`] has the exit status and the line of each refusal, and [`print`]
+//! writes a whole text to a sink. [`KINDS`] are the kinds of nodes that runs and checks visit.
 //!
 //! In which order to read: `kinds`, `loading`, `reading`, `checking`, `refusals`, `printing`.
 #![tactic(auto)]
@@ -14,7 +14,7 @@ mod printing;
 mod reading;
 mod refusals;
 
-pub use checking::{CheckFiles, judge, load_checked};
+pub use checking::{CheckFiles, load_checked};
 pub use kinds::{KINDS, VgdKinds};
 pub use loading::{Files, load_files};
 pub use printing::print;
