@@ -1,6 +1,8 @@
 -- The fields of a frame's headers (Ethernet; RFC 791, section 3.1; RFC 8200, section 3; IEEE 802.1Q); 0 where the frame ends before them.
 use Rattle.std.specs.Prelude.{ℕ, Bool, true, ◌+◌, ◌*◌, ◌/◌, ◌%◌, ◌==◌, List, [], ◌∷◌, slice_index, bit_xor, if◌then◌else◌}
 use Rattle.vg_model.specs.Hash.{mixed}
+use Rattle.vg_model.specs.Packet.{Packet, fresh}
+use Rattle.vg_model.specs.Tag as tags
 use Rattle.vg_story.specs.declared.pieces.Field.{Field}
 use Rattle.vg_story.specs.declared.pieces.Field.TheVariants as fields
 use Rattle.vg_story.specs.Fronts.{Front, number16, number32, number48}
@@ -9,9 +11,17 @@ use Rattle.vg_story.specs.Fronts.{Front, number16, number32, number48}
 abbrev pub type_of : Front → ℕ
 type_of f = number16 f.bytes 12
 
+-- a packet of these bytes, for what the model says of packets
+abbrev pub packet_of : Front → Packet
+packet_of f = fresh 0 f.bytes
+
+-- the frame has a whole tag, and the type behind it
+abbrev pub is_tagged : Front → Bool
+is_tagged f = tags.is_tagged (packet_of f)
+
 -- the VLAN id of the tag; 0 where there is none
 abbrev pub vlan : Front → ℕ
-vlan f = if type_of f == 0x8100 then number16 f.bytes 14 % 4096 else 0
+vlan f = if is_tagged f then tags.vlan_id (packet_of f) else 0
 
 -- the version of an IP header
 abbrev pub version : Front → ℕ
@@ -61,6 +71,7 @@ hash6 f =
 
 -- the frame shows a field: those of an IP header where its type says so, and not behind a tag
 abbrev pub has_field : Front → Field → Bool
+has_field f fields.Length = true
 has_field f fields.Destination = true
 has_field f fields.Source = true
 has_field f fields.Vlan = true
@@ -70,6 +81,7 @@ has_field f fields.HopLimit = type_of f == 0x86dd
 
 -- the number of a field
 abbrev pub number_of : Front → Field → ℕ
+number_of f fields.Length = f.len
 number_of f fields.Destination = number48 f.bytes 0
 number_of f fields.Source = number48 f.bytes 6
 number_of f fields.Vlan = vlan f
@@ -79,4 +91,4 @@ number_of f fields.HopLimit = hop_limit f
 
 -- the fields whose changes are shown, in this order
 abbrev pub all_fields : List Field
-all_fields = fields.Destination ∷ fields.Source ∷ fields.Vlan ∷ fields.Ttl ∷ fields.Checksum ∷ fields.HopLimit ∷ []
+all_fields = fields.Length ∷ fields.Destination ∷ fields.Source ∷ fields.Vlan ∷ fields.Ttl ∷ fields.Checksum ∷ fields.HopLimit ∷ []

@@ -1,5 +1,5 @@
 -- What a visit decided by: what is shown of it.
-use Rattle.std.specs.Prelude.{ℕ, ◌+◌, ◌-◌, ◌/◌, ◌%◌, Bool, false, ◌==◌, nat_lt, List, [], ◌∷◌, ◌++◌, length, slice_get, Option, Some, None, option_and_then, unwrap_or, if◌then◌else◌}
+use Rattle.std.specs.Prelude.{ℕ, ◌+◌, ◌-◌, ◌/◌, ◌%◌, Bool, false, ◌==◌, nat_lt, List, [], ◌∷◌, ◌++◌, length, slice_get, Option, Some, None, if◌then◌else◌}
 use Rattle.vg_model.specs.declared.kinds.DropError.{DropError}
 use Rattle.vg_model.specs.declared.kinds.DropError.TheVariants as errors
 use Rattle.vg_model.specs.declared.kinds.HashKind.TheVariants.{Flow}
@@ -15,7 +15,8 @@ use Rattle.vg_model.specs.declared.routes.RouteTo.{RouteTo}
 use Rattle.vg_model.specs.declared.routes.RouteTo.TheVariants as routes
 use Rattle.vg_model.specs.Errors.{error_number}
 use Rattle.vg_model.specs.Graph.{Graph}
-use Rattle.vg_model.specs.Hash.{flow_hash}
+use Rattle.vg_model.specs.Hash.{flow_hash, target_worker}
+use Rattle.vg_model.specs.nodes.Interfaces.{transmit_interface}
 use Rattle.vg_model.specs.Packet.{Packet}
 use Rattle.vg_model.specs.Route.{best_route, best_route6}
 use Rattle.vg_story.specs.declared.pieces.Piece.{Piece}
@@ -79,22 +80,27 @@ header6 f step =
     else if drops step errors.TtlZero then number words.Ttl (fields.hop_limit f)
     else []
 
+-- the place that a hash picks among so many neighbors
+abbrev pub place : (count hash : ℕ) → ℕ
+place count hash = hash / 8 % count
+
 -- of several neighbors: the hash, the place that it picks, and how many there are
 abbrev pub several : (count hash : ℕ) → List Piece
 several count hash =
-    if nat_lt count 2 then [] else number words.Hash hash ++ (number words.Place (hash / 8 % count) ++ number words.Of count)
+    if nat_lt count 2 then [] else number words.Hash hash ++ (number words.Place (place count hash) ++ number words.Of count)
 
--- the neighbor that was chosen, where one was
-abbrev pub via : Option ℕ → (count hash : ℕ) → List Piece
-via None count hash = []
-via (Some neighbor) count hash = fact words.Via (values.Neighbor neighbor) ++ several count hash
+-- the neighbor that was chosen, where one was and the graph has it
+abbrev pub via : Graph → Option ℕ → (count hash : ℕ) → List Piece
+via g None count hash = []
+via g (Some neighbor) count hash =
+    if nat_lt neighbor (length g.adjacencies) then fact words.Via (values.Neighbor neighbor) ++ several count hash else []
 
 -- the neighbor that was chosen of a route's
-abbrev pub chosen : Option RouteTo → (hash : ℕ) → Option ℕ → List Piece
-chosen None hash neighbor = []
-chosen (Some (routes.Via members)) hash neighbor = via neighbor (length members) hash
-chosen (Some routes.Local) hash neighbor = []
-chosen (Some routes.Drop) hash neighbor = []
+abbrev pub chosen : Graph → Option RouteTo → (hash : ℕ) → Option ℕ → List Piece
+chosen g None hash neighbor = []
+chosen g (Some (routes.Via members)) hash neighbor = via g neighbor (length members) hash
+chosen g (Some routes.Local) hash neighbor = []
+chosen g (Some routes.Drop) hash neighbor = []
 
 -- the route that matched, with its line
 abbrev pub matched : Option (Prefix × ℕ) → List Piece
@@ -112,7 +118,7 @@ lookup4 stage f step after =
     if drops step errors.Unchecked then []
     else fact words.To (values.Address address)
     ++ (matched (matched_in stage.routes.items address)
-    ++ chosen (best_route stage.fork.graph.routes address) (flow_hash Flow f.bytes) after.adjacency)
+    ++ chosen stage.fork.graph (best_route stage.fork.graph.routes address) (flow_hash Flow f.bytes) after.adjacency)
 
 -- the same of an IPv6 look-up
 abbrev pub lookup6 : Stage → Front → Step → Packet → List Piece
@@ -121,18 +127,18 @@ lookup6 stage f step after =
     if drops step errors.Unchecked then []
     else fact words.To (values.Address6 address)
     ++ (matched6 (matched6_in stage.routes6.items address)
-    ++ chosen (best_route6 stage.fork.graph.routes6 address) (fields.hash6 f) after.adjacency)
+    ++ chosen stage.fork.graph (best_route6 stage.fork.graph.routes6 address) (fields.hash6 f) after.adjacency)
 
--- what an interface takes
-abbrev pub takes : Option Interface → List Piece
-takes None = []
-takes (Some interface) = number words.Mtu interface.mtu
+-- an interface, and what it takes, where the graph has it
+abbrev pub takes : ℕ → Option Interface → List Piece
+takes n None = []
+takes n (Some interface) = fact words.On (values.Interface n) ++ number words.Mtu interface.mtu
 
 -- a neighbor, and its interface
 abbrev pub neighbor_at : Graph → ℕ → Option Adjacency → List Piece
 neighbor_at g n None = []
 neighbor_at g n (Some adjacency) =
-    fact words.Via (values.Neighbor n) ++ (fact words.On (values.Interface adjacency.interface) ++ takes (slice_get g.interfaces adjacency.interface))
+    fact words.Via (values.Neighbor n) ++ takes adjacency.interface (slice_get g.interfaces adjacency.interface)
 
 -- the neighbor that a frame is made ready for
 abbrev pub neighbor : Graph → Option ℕ → List Piece
@@ -149,24 +155,27 @@ abbrev pub rewrite : Stage → (length ttl : ℕ) → Step → Packet → List P
 rewrite stage length ttl step after =
     if drops step errors.Unchecked then [] else neighbor stage.fork.graph after.adjacency ++ looked_at length ttl step
 
--- the interface that a packet leaves on: its own, where the graph has it, or else the first
-abbrev pub leaves_on : Graph → Option ℕ → ℕ
-leaves_on g interface = unwrap_or (option_and_then (λ i. if nat_lt i (length g.interfaces) then Some i else None) interface) 0
+-- an interface, where the graph has it
+abbrev pub on_interface : Graph → ℕ → List Piece
+on_interface g n = if nat_lt n (length g.interfaces) then fact words.On (values.Interface n) else []
 
--- that interface is shown
+-- the interface that a packet leaves on
 abbrev pub leaving : Graph → Packet → List Piece
-leaving g p = fact words.On (values.Interface (leaves_on g p.interface))
+leaving g p = on_interface g (transmit_interface g p)
 
 -- of a handoff: the hash, and the worker that it chooses
 abbrev pub handed : (workers : ℕ) → Step → List Piece
-handed workers (steps.Hand hash) = number words.Hash hash ++ number words.Worker (hash % workers)
+handed workers (steps.Hand hash) = number words.Hash hash ++ number words.Worker (target_worker workers hash)
 handed workers (steps.Next slot) = []
 handed workers (steps.Tx interface) = []
 handed workers (steps.Dropped error) = []
 
--- of a tag: its VLAN id, where there is one
-abbrev pub tagged : Front → List Piece
-tagged f = if fields.vlan f == 0 then [] else number words.Tag (fields.vlan f)
+-- of a tag: the length of a frame that is too short for one, and else the VLAN id of the tag that the frame came with, where it has one
+abbrev pub tagged : Front → Step → List Piece
+tagged f step =
+    if drops step errors.Short then number words.Bytes f.len
+    else if fields.is_tagged f then number words.Tag (fields.vlan f)
+    else []
 
 -- why the node dropped the packet, where it did
 abbrev pub dropped : Step → List Piece
@@ -192,10 +201,10 @@ by_kind stage workers kinds.EthernetDual f step after = link f step
 by_kind stage workers kinds.Ip6Input f step after = header6 f step
 by_kind stage workers kinds.Ip6Lookup f step after = lookup6 stage f step after
 by_kind stage workers kinds.Ip6Rewrite f step after = rewrite stage (40 + fields.payload_len f) (fields.hop_limit f) step after
-by_kind stage workers (kinds.Dot1qMatch id) f step after = tagged f
-by_kind stage workers (kinds.Dot1qPush id) f step after = tagged f
-by_kind stage workers (kinds.Dot1qRewrite id) f step after = tagged f
-by_kind stage workers (kinds.CrossConnect interface) f step after = fact words.On (values.Interface interface)
+by_kind stage workers (kinds.Dot1qMatch id) f step after = tagged f step
+by_kind stage workers (kinds.Dot1qPush id) f step after = tagged f step
+by_kind stage workers (kinds.Dot1qRewrite id) f step after = tagged f step
+by_kind stage workers (kinds.CrossConnect interface) f step after = on_interface stage.fork.graph interface
 
 -- what a visit decided by
 abbrev pub reasons : Stage → (workers : ℕ) → Kind → Front → Step → Packet → List Piece

@@ -75,6 +75,7 @@ word_text words.Drop = codes "drop"
 
 -- the word of a field
 abbrev pub field_text : Field → List ℕ
+field_text fields.Length = codes "length"
 field_text fields.Destination = codes "dst"
 field_text fields.Source = codes "src"
 field_text fields.Vlan = codes "vlan"
@@ -84,6 +85,7 @@ field_text fields.HopLimit = codes "hop-limit"
 
 -- the number of a field
 abbrev pub field_number : Field → ℕ → List ℕ
+field_number fields.Length number = decimal number
 field_number fields.Destination number = link_text number
 field_number fields.Source number = link_text number
 field_number fields.Vlan number = decimal number

@@ -8,7 +8,8 @@ use crate::pieces::{Field, Piece};
 use std::alloc::AllocError;
 
 /// The fields whose changes are shown, in this order.
-const FIELDS: [Field; 6] = [
+const FIELDS: [Field; 7] = [
+    Field::Length,
     Field::Destination,
     Field::Source,
     Field::Vlan,

@@ -5,7 +5,7 @@ ghost use Rattle.vg_story.specs.Fields as fields;
 use crate::fronts::Front;
 use crate::numbers::{byte, number16, number32, number48, number64};
 use crate::pieces::Field;
-use vg_packet::mixed;
+use vg_packet::{mixed, u16_at};
 
 /// The type of IPv4.
 const TYPE_IP4: u16 = 0x0800;
@@ -23,11 +23,19 @@ pub(crate) fn type_of(front: &Front) -> u16
     number16(front.bytes(), 12)
 }
 
+/// Whether the frame has a whole tag, and the type behind it.
+pub(crate) fn is_tagged(front: &Front) -> bool
+    ensures { result ≡ fields.is_tagged front.now }
+{
+    let bytes = front.bytes();
+    bytes.len() >= 18 && u16_at(bytes, 12) == TYPE_TAG
+}
+
 /// The VLAN id of the tag; 0 where there is none.
 pub(crate) fn vlan(front: &Front) -> u16
     ensures { result ≡ fields.vlan front.now }
 {
-    if type_of(front) == TYPE_TAG {
+    if is_tagged(front) {
         number16(front.bytes(), 14) % 4096
     } else {
         0
@@ -123,7 +131,7 @@ pub(crate) fn has_field(front: &Front, field: Field) -> bool
     ensures { result ≡ fields.has_field front.now field }
 {
     match field {
-        Field::Destination | Field::Source | Field::Vlan => true,
+        Field::Length | Field::Destination | Field::Source | Field::Vlan => true,
         Field::Ttl | Field::Checksum => type_of(front) == TYPE_IP4,
         Field::HopLimit => type_of(front) == TYPE_IP6,
     }
@@ -134,6 +142,7 @@ pub(crate) fn number_of(front: &Front, field: Field) -> u64
     ensures { result ≡ fields.number_of front.now field }
 {
     match field {
+        Field::Length => u64::from(front.len()),
         Field::Destination => number48(front.bytes(), 0),
         Field::Source => number48(front.bytes(), 6),
         Field::Vlan => u64::from(vlan(front)),

@@ -73,6 +73,8 @@ pub struct Fact {
 /// A field of a frame.
 #[derive(Clone, Copy, Debug, PartialEq, Eq)]
 pub enum Field {
+    /// How many bytes the frame has.
+    Length,
     /// The link-layer address that the frame is to.
     Destination,
     /// The link-layer address that the frame is from.

@@ -1,11 +1,12 @@
 //! What a visit decided by. Each function adds facts behind others; where memory runs out it stops.
 ghost use Rattle.std.specs.Prelude.{◌≡◌, ◌++◌, ◌<◌, Some, OnOk, slice_get};
 ghost use Rattle.std.specs.Option.{option_copied};
+ghost use Rattle.vg_model.specs.nodes.Interfaces.{transmit_interface};
 ghost use Rattle.vg_story.specs.Reasons as told;
 
 use crate::fields::{
-    checksum, destination, destination6, hash6, header_len, hop_limit, payload_len, time_to_live,
-    total_len, type_of, version, vlan,
+    checksum, destination, destination6, hash6, header_len, hop_limit, is_tagged, payload_len,
+    time_to_live, total_len, type_of, version, vlan,
 };
 use crate::fronts::Front;
 use crate::matches::{matched4, matched6};
@@ -64,7 +65,7 @@ fn put_link(pieces: &mut Vec<Piece>, before: &Front, step: Step) -> Result<(), A
     put_fact(pieces, Word::Type, Value::Hex(type_of(before)))
 }
 
-// A length that an IPv4 header says, and those of the header and of the bytes that are there.
+// The length that an IPv4 header says of itself, and how many bytes are there.
 fn put_lengths(pieces: &mut Vec<Piece>, before: &Front) -> Result<(), AllocError>
     ensures { OnOk result (pieces.new.items ≡ pieces.old.items ++ told.lengths before.now) }
 {
@@ -130,36 +131,39 @@ fn put_several(pieces: &mut Vec<Piece>, count: u64, hash: u32) -> Result<(), All
     put_number(pieces, Word::Of, count)
 }
 
-// The neighbor that was chosen, where one was.
+// The neighbor that was chosen, where one was and the graph has it.
 fn put_via(
     pieces: &mut Vec<Piece>,
+    fork: &Fork,
     neighbor: Option<u16>,
     count: u64,
     hash: u32,
 ) -> Result<(), AllocError>
-    ensures { OnOk result (pieces.new.items ≡ pieces.old.items ++ told.via neighbor count hash) }
+    ensures { OnOk result (pieces.new.items ≡ pieces.old.items ++ told.via fork.now.graph neighbor count hash) }
 {
     match neighbor {
-        Some(neighbor) => {
+        Some(neighbor) if neighbor < fork.adjacencies() => {
             put_fact(pieces, Word::Via, Value::Neighbor(neighbor))?;
             put_several(pieces, count, hash)
         }
-        None => Ok(()),
+        _ => Ok(()),
     }
 }
 
 // The neighbor that was chosen of a route's.
 fn put_target(
     pieces: &mut Vec<Piece>,
+    fork: &Fork,
     target: &RouteTo,
     hash: u32,
     neighbor: Option<u16>,
 ) -> Result<(), AllocError>
-    ensures { OnOk result (pieces.new.items ≡ pieces.old.items ++ told.chosen (Some target.now) hash neighbor) }
+    ensures { OnOk result (pieces.new.items ≡ pieces.old.items ++ told.chosen fork.now.graph (Some target.now) hash neighbor) }
 {
     match target {
         RouteTo::Via(members) => {
-            put_via(pieces, neighbor, members.as_slice().len() as u64, hash)
+            let count = members.as_slice().len() as u64;
+            put_via(pieces, fork, neighbor, count, hash)
         }
         RouteTo::Local | RouteTo::Drop => Ok(()),
     }
@@ -168,14 +172,15 @@ fn put_target(
 // The neighbor that was chosen of a route's, where there is a route.
 fn put_chosen(
     pieces: &mut Vec<Piece>,
+    fork: &Fork,
     target: Option<&RouteTo>,
     hash: u32,
     neighbor: Option<u16>,
 ) -> Result<(), AllocError>
-    ensures { OnOk result (pieces.new.items ≡ pieces.old.items ++ told.chosen (option_copied target.entry) hash neighbor) }
+    ensures { OnOk result (pieces.new.items ≡ pieces.old.items ++ told.chosen fork.now.graph (option_copied target.entry) hash neighbor) }
 {
     match target {
-        Some(target) => put_target(pieces, target, hash, neighbor),
+        Some(target) => put_target(pieces, fork, target, hash, neighbor),
         None => Ok(()),
     }
 }
@@ -223,7 +228,13 @@ fn put_lookup4(
     put_fact(pieces, Word::To, Value::Address(address))?;
     put_matched(pieces, matched4(stage.routes.as_slice(), address))?;
     let hash = flow_hash(HashKind::Flow, before.bytes());
-    put_chosen(pieces, stage.fork.target(address), hash, after.adjacency())
+    put_chosen(
+        pieces,
+        &stage.fork,
+        stage.fork.target(address),
+        hash,
+        after.adjacency(),
+    )
 }
 
 // The same of an IPv6 look-up.
@@ -244,19 +255,21 @@ fn put_lookup6(
     put_matched6(pieces, matched6(stage.routes6.as_slice(), address))?;
     put_chosen(
         pieces,
+        &stage.fork,
         stage.fork.target6(address),
         hash6(before),
         after.adjacency(),
     )
 }
 
-// What an interface takes, where the graph has it.
+// An interface, and what it takes, where the graph has it.
 fn put_takes(pieces: &mut Vec<Piece>, fork: &Fork, number: u16) -> Result<(), AllocError>
-    ensures { OnOk result (pieces.new.items ≡ pieces.old.items ++ told.takes (slice_get fork.now.graph.interfaces number)) }
+    ensures { OnOk result (pieces.new.items ≡ pieces.old.items ++ told.takes number (slice_get fork.now.graph.interfaces number)) }
 {
     if number >= fork.interfaces() {
         return Ok(());
     }
+    put_fact(pieces, Word::On, Value::Interface(number))?;
     put_number(pieces, Word::Mtu, u64::from(fork.interface(number).mtu))
 }
 
@@ -270,7 +283,6 @@ fn put_adjacency(
     ensures { OnOk result (pieces.new.items ≡ pieces.old.items ++ told.neighbor_at fork.now.graph number (Some adjacency.now)) }
 {
     put_fact(pieces, Word::Via, Value::Neighbor(number))?;
-    put_fact(pieces, Word::On, Value::Interface(adjacency.interface))?;
     put_takes(pieces, fork, adjacency.interface)
 }
 
@@ -318,11 +330,22 @@ fn put_rewrite(
     Ok(())
 }
 
-// The interface that a packet leaves on: its own, where the graph has it, or else the first.
-fn leaves_on(fork: &Fork, interface: Option<u16>) -> u16
-    ensures { result ≡ told.leaves_on fork.now.graph interface }
+// An interface, where the graph has it.
+fn put_on(pieces: &mut Vec<Piece>, fork: &Fork, number: u16) -> Result<(), AllocError>
+    ensures { OnOk result (pieces.new.items ≡ pieces.old.items ++ told.on_interface fork.now.graph number) }
 {
-    match interface {
+    if number < fork.interfaces() {
+        put_fact(pieces, Word::On, Value::Interface(number))
+    } else {
+        Ok(())
+    }
+}
+
+// The interface that a packet leaves on: its own, where the graph has it, or else the first.
+fn leaves_on(fork: &Fork, packet: &Buffer) -> u16
+    ensures { result ≡ transmit_interface fork.now.graph packet.now.packet }
+{
+    match packet.interface() {
         Some(interface) if interface < fork.interfaces() => interface,
         _ => 0,
     }
@@ -332,8 +355,7 @@ fn leaves_on(fork: &Fork, interface: Option<u16>) -> u16
 fn put_leaving(pieces: &mut Vec<Piece>, fork: &Fork, after: &Buffer) -> Result<(), AllocError>
     ensures { OnOk result (pieces.new.items ≡ pieces.old.items ++ told.leaving fork.now.graph after.now.packet) }
 {
-    let interface = leaves_on(fork, after.interface());
-    put_fact(pieces, Word::On, Value::Interface(interface))
+    put_on(pieces, fork, leaves_on(fork, after))
 }
 
 // Of a handoff: the hash, and the worker that it chooses.
@@ -350,15 +372,18 @@ fn put_handed(pieces: &mut Vec<Piece>, workers: u8, step: Step) -> Result<(), Al
     }
 }
 
-// Of a tag: its VLAN id, where there is one.
-fn put_tag(pieces: &mut Vec<Piece>, before: &Front) -> Result<(), AllocError>
-    ensures { OnOk result (pieces.new.items ≡ pieces.old.items ++ told.tagged before.now) }
+// Of a tag: the length of a frame that is too short for one, and else the VLAN id of the tag that the frame came with, where it has one.
+fn put_tag(pieces: &mut Vec<Piece>, before: &Front, step: Step) -> Result<(), AllocError>
+    ensures { OnOk result (pieces.new.items ≡ pieces.old.items ++ told.tagged before.now step) }
 {
-    let id = vlan(before);
-    if id == 0 {
-        return Ok(());
+    if drops(step, DropError::Short) {
+        return put_number(pieces, Word::Bytes, u64::from(before.len()));
     }
-    put_number(pieces, Word::Tag, u64::from(id))
+    if is_tagged(before) {
+        put_number(pieces, Word::Tag, u64::from(vlan(before)))
+    } else {
+        Ok(())
+    }
 }
 
 // Why the node dropped the packet, where it did.
@@ -399,11 +424,11 @@ fn put_by_kind(
             put_rewrite(pieces, stage, length, hop_limit(before), step, after)
         }
         Kind::InterfaceOutput | Kind::InterfaceTx => put_leaving(pieces, &stage.fork, after),
-        Kind::CrossConnect(interface) => {
-            put_fact(pieces, Word::On, Value::Interface(u16::from(interface)))
-        }
+        Kind::CrossConnect(interface) => put_on(pieces, &stage.fork, u16::from(interface)),
         Kind::WorkerHandoff(_) => put_handed(pieces, workers, step),
-        Kind::Dot1qMatch(_) | Kind::Dot1qPush(_) | Kind::Dot1qRewrite(_) => put_tag(pieces, before),
+        Kind::Dot1qMatch(_) | Kind::Dot1qPush(_) | Kind::Dot1qRewrite(_) => {
+            put_tag(pieces, before, step)
+        }
         Kind::PgInput | Kind::HandoffDequeue | Kind::ErrorDrop | Kind::Pass => Ok(()),
     }
 }

@@ -121,6 +121,7 @@ impl Field {
         ensures { result.now ≡ texts.field_text self }
     {
         match self {
+            Field::Length => "length",
             Field::Destination => "dst",
             Field::Source => "src",
             Field::Vlan => "vlan",
@@ -137,7 +138,7 @@ fn put_field_number(out: &mut Vec<u8>, field: Field, number: u64) -> Result<(), 
 {
     match field {
         Field::Destination | Field::Source => put_link(out, number),
-        Field::Vlan | Field::Ttl | Field::HopLimit => put_decimal(out, number),
+        Field::Length | Field::Vlan | Field::Ttl | Field::HopLimit => put_decimal(out, number),
         Field::Checksum => put_hex(out, (number % 65_536) as u16),
     }
 }

@@ -8,4 +8,4 @@ pub returns-then-number-interfaces : goal.returns-then-number-interfaces
 returns-then-number-interfaces c =
     let pieces = c.args.pieces.now.items in
     let none = slice_get_past c.args.fork.now.graph.interfaces c.args.number (omega arith) in
-    sym (append-nil pieces) ∙ ap (λ o. pieces ++ takes o) (sym none)
+    sym (append-nil pieces) ∙ ap (λ o. pieces ++ takes c.args.number o) (sym none)
