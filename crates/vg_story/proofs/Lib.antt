@@ -1,3 +1,5 @@
 pub mod VisitLemmas
 pub mod FrontLemmas
 pub mod WriteLemmas
+pub mod ThereLemmas
+pub mod LawLemmas

@@ -5,3 +5,4 @@ pub mod Changes
 pub mod Reasons
 pub mod Visits
 pub mod Text
+pub mod Laws

@@ -5,13 +5,14 @@
 //! writes them.
 //!
 //! In which order to read: `pieces` and `stages`, `fronts` with `numbers` and `fields`, `changes`, `matches`, `reasons`, `chains`, `visits`; `words` and
-//! `writing` by themselves.
+//! `writing` by themselves; then `laws`.
 #![tactic(auto)]
 
 mod chains;
 mod changes;
 mod fields;
 mod fronts;
+pub mod laws;
 mod matches;
 mod numbers;
 mod pieces;
