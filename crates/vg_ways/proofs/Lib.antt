@@ -1,6 +1,8 @@
 pub mod ReadLemmas
 pub mod LineLemmas
+pub mod TallyLemmas
 pub mod CountLemmas
+pub mod LeftLemmas
 pub mod StoryLemmas
 pub mod StageLemmas
 pub mod ClockLemmas

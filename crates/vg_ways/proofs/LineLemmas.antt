@@ -54,7 +54,7 @@ after_all {items = items} {old = old} {new = new} i same past after = subst (λ 
 -- ---- one edit
 
 -- keys are equal where both parts are
-is_key : (a b c d : ℕ) → is_eq (ordering_then (nat_cmp a b) (nat_cmp c d)) ≡ (a == b && c == d)
+pub is_key : (a b c d : ℕ) → is_eq (ordering_then (nat_cmp a b) (nat_cmp c d)) ≡ (a == b && c == d)
 is_key a b c d = by_tests (nat_lt a b) (a == b) (nat_lt c d) (c == d) (λ e. grind (arith, nat_tests)) (λ e. grind (arith, nat_tests))
   where
     by_tests : (less same first one : Bool) → (less ≡ true → same ≡ false) → (first ≡ true → one ≡ false)

@@ -1,5 +1,5 @@
 -- For `Stages`: generations that are kept, and the next one.
-use Rattle.std.proofs.Common.{◌≡◌, ◌⊎◌, ℕ, zero, suc, ◌+◌, ◌-◌, ◌<◌, ◌≤◌, Bool, false, ◌==◌, map, get_or, List, [], ◌∷◌, ◌++◌, length, drop, refl, sym, ap, subst, ◌∙◌, inl, inr, arith, length-append, length-drop}
+use Rattle.std.proofs.Common.{◌≡◌, ◌⊎◌, ℕ, zero, suc, ◌+◌, ◌-◌, ◌<◌, ◌≤◌, Bool, false, ◌==◌, map, get_or, List, [], ◌∷◌, ◌++◌, length, drop, max, min, refl, sym, ap, subst, ◌∙◌, inl, inr, arith, length-append, length-drop}
 use Rattle.std.specs.Borrow.{Bor}
 use Rattle.std.specs.Option.{option_copied}
 use Rattle.std.specs.Prelude.{Option, Some, None, IfSome, slice_get, slice_index_or, slice_set, option_map, unwrap_or, if◌then◌else◌}
@@ -18,7 +18,7 @@ use Rattle.vg_ways.specs.Events.{event_of}
 use Rattle.vg_ways.specs.declared.lines.RouteLines.{RouteLines}
 use Rattle.vg_ways.specs.Lines.{lined, route_line, route6_line}
 use Rattle.vg_ways.specs.LinesView.{line_in, line6_in, AreLinesOf}
-use Rattle.vg_ways.specs.Stages.{IsStageOf, IsStageWith, IsKeptOf}
+use Rattle.vg_ways.specs.Stages.{AreForgotten, IsStageOf, IsStageWith, IsKeptOf}
 use Rattle.vg_ways.proofs.ReadLemmas.{IsRead}
 use Rattle.vg_ways.proofs.LineLemmas.{lined_same}
 
@@ -56,17 +56,79 @@ kept_push plan made stage kept is g h =
           (subst (IsKeptOf plan (length made)) (sym (get_or-append_seam made (Some stage) [] None)) is)
     ]
 
--- one generation is forgotten
-pub kept_forget : (plan : Planned) (made : List (Option Stage)) (k : ℕ) → AreKept plan made → AreKept plan (slice_set made k None)
-kept_forget plan made k kept g h =
-    let long = length-set made k None in
-    let within : g < length made = omega (arith, long, h) in
-    let cases : (k ≡ g) ⊎ (g ≡ k → ⊥) = grind arith in
+-- nothing is forgotten yet
+pub none_forgotten : (from : ℕ) (made : List (Option Stage)) → AreForgotten from from made made
+none_forgotten from made = record {
+  len = refl;
+  none = λ place least most. absurd (omega (arith, least, most));
+  below = λ place h. refl;
+  above = λ place h. refl;
+}
+
+-- one place more
+pub forgotten_more : {from place : ℕ} {old made : List (Option Stage)} → from ≤ place → place < length old → AreForgotten from place old made
+    → AreForgotten from (place + 1) old (slice_set made place None)
+forgotten_more {from = from} {place = place} {old = old} {made = made} least within are =
+    let long = are.len in
+    let inside : place < length made = omega (arith, long, within) in
+    record {
+      len = length-set made place None ∙ are.len;
+      none = λ k low high.
+          let cases : (k < place) ⊎ (place ≡ k) = grind arith in
+          elim cases [
+            | inl before ↦ get_or-set_other made place k None None (λ e. absurd (omega (arith, e, before))) ∙ are.none k low before
+            | inr same ↦ subst (λ n. slice_index_or (slice_set made place None) n None ≡ None) same (get_or-set_same made place None None inside)
+          ];
+      below = λ k h. get_or-set_other made place k None None (λ e. absurd (omega (arith, e, h, least))) ∙ are.below k h;
+      above = λ k h. get_or-set_other made place k None None (λ e. absurd (omega (arith, e, h))) ∙ are.above k (omega (arith, h));
+    }
+
+-- what is kept of the generations once some are forgotten
+pub kept_forgotten : (plan : Planned) {from before : ℕ} {old new : List (Option Stage)} → AreForgotten from before old new → AreKept plan old → AreKept plan new
+kept_forgotten plan {from = from} {before = before} {old = old} {new = new} are kept g h =
+    let long = are.len in
+    let within : g < length old = omega (arith, long, h) in
+    let cases : (g < from) ⊎ ((before ≤ g) ⊎ ((from ≤ g) × (g < before))) = grind arith in
     elim cases [
-      | inl same ↦ subst (λ n. IsKeptOf plan g (slice_index_or (slice_set made n None) g None)) (sym same)
-          (subst (IsKeptOf plan g) (sym (get_or-set_same made g None None within)) tt)
-      | inr other ↦ subst (IsKeptOf plan g) (sym (get_or-set_other made k g None None other)) (kept g within)
+      | inl low ↦ subst (IsKeptOf plan g) (sym (are.below g low)) (kept g within)
+      | inr other ↦ elim other [
+        | inl high ↦ subst (IsKeptOf plan g) (sym (are.above g high)) (kept g within)
+        | inr between ↦ subst (IsKeptOf plan g) (sym (are.none g between.0 between.1)) tt
+      ]
     ]
+
+-- the place up to which they are forgotten is none behind the end
+pub place_few : (asked : ℕ) {before len from : ℕ} → before ≡ max (min len asked) from → from ≤ len → before ≤ len
+place_few asked place few = omega (arith, place, few)
+
+-- none is kept before the place up to which they are forgotten
+pub none_below : {from before : ℕ} {old new : List (Option Stage)} → AreForgotten from before old new → ((g : ℕ) → g < from → slice_index_or old g None ≡ None)
+    → (g : ℕ) → g < before → slice_index_or new g None ≡ None
+none_below {from = from} are gone g h =
+    let cases : (g < from) ⊎ (from ≤ g) = grind arith in
+    elim cases [ inl low ↦ are.below g low ∙ gone g low | inr least ↦ are.none g least h ]
+
+-- nor where that place is the end of those that were made
+pub none_before : {from before : ℕ} (asked : ℕ) {old new : List (Option Stage)} → AreForgotten from before old new → ((g : ℕ) → g < from → slice_index_or old g None ≡ None)
+    → before ≡ max (min (length old) asked) from → (g : ℕ) → g < asked → slice_index_or new g None ≡ None
+none_before {before = before} asked {old = old} {new = new} are gone place g h =
+    let cases : (g < before) ⊎ (length old ≤ g) = grind arith in
+    elim cases [
+      | inl low ↦ none_below are gone g low
+      | inr past ↦ get_or_past new g None (let long = are.len in omega (arith, long, past))
+    ]
+
+-- those from there on stay
+pub others_stay : {from before : ℕ} (asked : ℕ) {old new : List (Option Stage)} → AreForgotten from before old new
+    → before ≡ max (min (length old) asked) from → (g : ℕ) → asked ≤ g → slice_index_or new g None ≡ slice_index_or old g None
+others_stay {from = from} {before = before} asked are place g h =
+    let cases : (g < from) ⊎ (before ≤ g) = grind arith in
+    elim cases [ inl low ↦ are.below g low | inr high ↦ are.above g high ]
+
+-- one generation more leaves those before as they are
+pub forgotten_push : (made : List (Option Stage)) (stage : Option Stage) (from : ℕ) → from ≤ length made → ((g : ℕ) → g < from → slice_index_or made g None ≡ None)
+    → (g : ℕ) → g < from → slice_index_or (made ++ stage ∷ []) g None ≡ None
+forgotten_push made stage from few gone g h = get_or_append_left made (stage ∷ []) None g (omega (arith, few, h)) ∙ gone g h
 
 -- the first of those from a place on
 get_drop : {X : Type 0} (xs : List X) (k : ℕ) → slice_get (drop k xs) 0 ≡ slice_get xs k

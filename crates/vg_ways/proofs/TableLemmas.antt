@@ -1,6 +1,6 @@
 -- For the functions that append the tables: the text of one number more, and the tables of all generations.
 use Rattle.std.proofs.Common.{◌≡◌, ℕ, zero, suc, ◌+◌, ◌<◌, List, [], ◌∷◌, ◌++◌, length, take, refl, sym, ap, ap₂, ◌∙◌, add-one, append_assoc, append-nil, arith}
-use Rattle.std.specs.Prelude.{slice_get, slice_index_or, flat_map}
+use Rattle.std.specs.Prelude.{slice_get, flat_map}
 use Rattle.std.proofs.lemmas.Grind.{flat_map-append}
 use Rattle.std.proofs.lemmas.List.{length-map}
 use Rattle.vg_ways.proofs.ReadLemmas.{IsRead, take_read}
@@ -9,7 +9,8 @@ use Rattle.vg_plan.specs.Plan.{Planned}
 use Rattle.vg_ways.specs.declared.entries.Entry.{Entry}
 use Rattle.vg_ways.specs.declared.logs.Log.{Log}
 use Rattle.vg_ways.specs.Counts.{texts_below, table_at, generation_text, tables_text}
-use Rattle.vg_ways.specs.Logs.{lists_of, IsLogOf}
+use Rattle.vg_ways.specs.Logs.{tallies_of, tally_at, IsLogOf}
+use Rattle.vg_ways.specs.Tallies.{tally_in}
 
 pub texts_below_more : (text : ℕ → List ℕ) (n : ℕ) → texts_below text (n + 1) ≡ texts_below text n ++ text n
 texts_below_more text n = ap (texts_below text) (add-one n)
@@ -42,12 +43,12 @@ texts_below_same f g (suc n) same =
 
 -- the tables of all generations, by the entries of each
 pub tables_are : (plan : Planned) (names : Graph) (entries : List (ℕ × Entry)) (log : Log) → IsLogOf (length plan.graphs) entries log
-    → tables_text plan names (lists_of log) ≡ texts_below (generation_text plan names entries) (length plan.graphs)
+    → tables_text plan names (tallies_of log) ≡ texts_below (generation_text plan names entries) (length plan.graphs)
 tables_are plan names entries log is =
-    let by_lists : ℕ → List ℕ = λ g. table_at plan names g (slice_index_or (lists_of log) g []) (slice_get plan.graphs g) in
-    ap (texts_below by_lists) (length-map log.lists.items (λ list. list.items) ∙ is.count)
-    ∙ texts_below_same by_lists (generation_text plan names entries) (length plan.graphs)
-    (λ g h. ap (λ es. table_at plan names g es (slice_get plan.graphs g)) (is.each g h))
+    let by_tallies : ℕ → List ℕ = λ g. table_at plan names g (tally_at (tallies_of log) g) (slice_get plan.graphs g) in
+    ap (texts_below by_tallies) (length-map log.tallies.items tally_in ∙ is.count)
+    ∙ texts_below_same by_tallies (generation_text plan names entries) (length plan.graphs)
+    (λ g h. ap (λ t. table_at plan names g t (slice_get plan.graphs g)) (is.each g h))
 
 -- three pieces
 pub three : (before a b c : List ℕ) → ((before ++ a) ++ b) ++ c ≡ before ++ (a ++ (b ++ c))

@@ -96,3 +96,12 @@ is_tx interface entry = false
 abbrev pub is_dropped : (node : ℕ) → DropError → Entry → Bool
 is_dropped node error (entries.Ended end) = is_drop node error end
 is_dropped node error entry = false
+
+-- a packet that was transmitted: to whatever neighbor or to none; and on whatever interface
+abbrev pub is_left_any : Entry → Bool
+is_left_any (entries.Left neighbor) = true
+is_left_any entry = false
+
+abbrev pub is_sent_any : Entry → Bool
+is_sent_any (entries.Ended (ends.Tx interface)) = true
+is_sent_any entry = false

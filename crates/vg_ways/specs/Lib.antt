@@ -1,5 +1,7 @@
 pub mod Events
 pub mod Entries
+pub mod Tallied
+pub mod Tallies
 pub mod Logs
 pub mod Counts
 pub mod Stages
@@ -10,3 +12,4 @@ pub mod Clocks
 pub mod Legs
 pub mod Lines
 pub mod LinesView
+pub mod Known

@@ -1,7 +1,12 @@
 -- Entries by generation.
-use Rattle.std.specs.Prelude.{◌≡◌, ℕ, zero, suc, ◌+◌, ◌<◌, ◌==◌, nat_lt, Bool, List, [], ◌∷◌, ◌++◌, length, map, filter, count_by, slice_index_or, slice_set, if◌then◌else◌}
+use Rattle.std.specs.Prelude.{◌≡◌, ℕ, zero, suc, ◌+◌, ◌-◌, ◌<◌, ◌^◌, ◌==◌, nat_lt, Bool, List, [], length, map, filter, count_by, slice_index_or, slice_set, if◌then◌else◌}
+use Rattle.vg_story.specs.declared.pieces.Piece.{Piece}
 use Rattle.vg_ways.specs.declared.entries.Entry.{Entry}
 use Rattle.vg_ways.specs.declared.logs.Log.{Log}
+use Rattle.vg_ways.specs.declared.stories.Went.{Went}
+use Rattle.vg_ways.specs.Entries.{entries_of, is_left_any, is_sent_any}
+use Rattle.vg_ways.specs.Tallied.{Tallied, tallied, counted_as, with_entry}
+use Rattle.vg_ways.specs.Tallies.{tally_in}
 
 -- the entry is under this generation
 abbrev pub is_under : ℕ → ℕ × Entry → Bool
@@ -18,24 +23,40 @@ all_of log = map (λ entry. entry.1) log
 abbrev pub within : (generations : ℕ) → List (ℕ × Entry) → List (ℕ × Entry)
 within generations log = filter (λ entry. nat_lt entry.0 generations) log
 
--- the lists as contracts see them
-abbrev pub lists_of : Log → List (List Entry)
-lists_of log = map (λ list. list.items) log.lists.items
+-- how many count for each line, under each generation and of all
+abbrev pub tallies_of : Log → List Tallied
+tallies_of log = map tally_in log.tallies.items
 
--- with one entry more, where there is a list of its generation
-abbrev pub lists_with : List (List Entry) → ℕ × Entry → List (List Entry)
-lists_with lists entry =
-    if nat_lt entry.0 (length lists) then slice_set lists entry.0 (slice_index_or lists entry.0 [] ++ entry.1 ∷ []) else lists
+abbrev pub tally_of_all : Log → Tallied
+tally_of_all log = tally_in log.all
+
+-- of no entry
+abbrev pub none : Tallied
+none = tallied []
+
+-- under one generation of these
+abbrev pub tally_at : List Tallied → (generation : ℕ) → Tallied
+tally_at tallies generation = slice_index_or tallies generation none
+
+-- with one entry more, where there is its generation
+abbrev pub tallies_with : List Tallied → ℕ × Entry → List Tallied
+tallies_with tallies entry =
+    if nat_lt entry.0 (length tallies) then slice_set tallies entry.0 (with_entry (tally_at tallies entry.0) entry.1) else tallies
 
 -- with one entry more, where its generation is one of so many
-abbrev pub all_with : (generations : ℕ) → List Entry → ℕ × Entry → List Entry
-all_with generations all entry = if nat_lt entry.0 generations then all ++ entry.1 ∷ [] else all
+abbrev pub all_with : (generations : ℕ) → Tallied → ℕ × Entry → Tallied
+all_with generations all entry = if nat_lt entry.0 generations then with_entry all entry.1 else all
 
--- the entries by generation, and all of them
+-- one more can be counted
+pub record HasRoom (entry : ℕ × Entry) (log : Log) : Type 0 where
+  pub under : counted_as entry.1 (tally_at (tallies_of log) entry.0) < 2 ^ 64 - 1
+  pub all : counted_as entry.1 (tally_of_all log) < 2 ^ 64 - 1
+
+-- how many of these entries count for each line, under each generation and of all
 pub record IsLogOf (generations : ℕ) (entries : List (ℕ × Entry)) (log : Log) : Type 0 where
-  pub count : length log.lists.items ≡ generations
-  pub each : (generation : ℕ) → generation < generations → slice_index_or (lists_of log) generation [] ≡ under generation entries
-  pub all : log.all.items ≡ all_of (within generations entries)
+  pub count : length log.tallies.items ≡ generations
+  pub each : (generation : ℕ) → generation < generations → tally_at (tallies_of log) generation ≡ tallied (under generation entries)
+  pub all : tally_of_all log ≡ tallied (all_of (within generations entries))
 
 -- what is counted under each of so many generations, added up
 abbrev pub total : (generations : ℕ) → (ℕ → ℕ) → ℕ
@@ -47,3 +68,9 @@ abbrev pub CountsAddUp : Type 0
 CountsAddUp =
     (generations : ℕ) (entries : List (ℕ × Entry)) (p : Entry → Bool)
     → total generations (λ generation. count_by p (under generation entries)) ≡ count_by p (all_of (within generations entries))
+
+-- of a packet, what is counted as transmitted to neighbors and to none is what is counted as transmitted on interfaces
+abbrev pub LeftAreSent : Type 0
+LeftAreSent =
+    (generations : ℕ) (went : Went) (told : List Piece)
+    → count_by is_left_any (all_of (within generations (entries_of went told))) ≡ count_by is_sent_any (all_of (within generations (entries_of went told)))

@@ -1,5 +1,5 @@
 -- The generations that packets go through.
-use Rattle.std.specs.Prelude.{◌≡◌, ℕ, List, slice_get, slice_index_or, Option, Some, None}
+use Rattle.std.specs.Prelude.{◌≡◌, ℕ, ◌<◌, ◌≤◌, List, length, slice_get, slice_index_or, Option, Some, None}
 use Rattle.vg_model.specs.declared.routes.Prefix.{Prefix}
 use Rattle.vg_model.specs.declared.routes.Prefix6.{Prefix6}
 use Rattle.vg_model.specs.Graph.{Graph}
@@ -32,3 +32,10 @@ pub record Shown : Type 0 where
 -- the generation is kept
 abbrev pub kept_at : Shown → ℕ → Option Stage
 kept_at shown generation = slice_index_or shown.kept generation None
+
+-- what was kept at the places from one to another is forgotten, and nothing else
+pub record AreForgotten (from before : ℕ) (old new : List (Option Stage)) : Type 0 where
+  pub len : length new ≡ length old
+  pub none : (place : ℕ) → from ≤ place → place < before → slice_index_or new place None ≡ None
+  pub below : (place : ℕ) → place < from → slice_index_or new place None ≡ slice_index_or old place None
+  pub above : (place : ℕ) → before ≤ place → slice_index_or new place None ≡ slice_index_or old place None

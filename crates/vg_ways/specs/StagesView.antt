@@ -19,3 +19,5 @@ pub record AreStages (s : Inside) : Type 0 where
   pub later : IfSome s.later (λ later. later ≡ drop (length s.made.items - 1) s.plan.now.graphs)
   pub lines : IfSome s.later (λ later. AreLinesOf s.plan.now.script (length s.made.items - 1) s.lines)
   pub kept : (generation : ℕ) → generation < length s.made.items → IsKeptOf s.plan.now generation (slice_index_or s.made.items generation None)
+  pub kept_from : s.kept_from ≤ length s.made.items
+  pub forgotten : (generation : ℕ) → generation < s.kept_from → slice_index_or s.made.items generation None ≡ None

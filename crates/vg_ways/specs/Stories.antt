@@ -1,7 +1,9 @@
 -- What is shown of a packet's way.
-use Rattle.std.specs.Prelude.{◌≡◌, ℕ, ◌+◌, ◌==◌, nat_lt, List, [], ◌∷◌, ◌++◌, length, take, drop, unwrap_or, if◌then◌else◌}
+use Rattle.std.specs.Prelude.{◌≡◌, ℕ, ◌+◌, ◌==◌, nat_lt, List, [], ◌∷◌, ◌++◌, length, map, take, drop, unwrap_or, if◌then◌else◌}
 use Rattle.std.specs.List.{position}
+use Rattle.vg_model.specs.declared.fates.End.{End}
 use Rattle.vg_model.specs.declared.fates.Leg.{Leg}
+use Rattle.vg_model.specs.Count.{drop_visit}
 use Rattle.vg_model.specs.Graph.{handoff_dequeue}
 use Rattle.vg_model.specs.Journey.{longest_packet}
 use Rattle.vg_model.specs.Packet.{Packet, fresh}
@@ -42,7 +44,12 @@ AddsLegs visit plan workers (leg ∷ legs) visits p old new =
 abbrev pub received : List ℕ → List ℕ
 received bytes = if nat_lt longest_packet (length bytes) then [] else bytes
 
--- the pieces show the way of a packet that went so
+-- a visit of `error-drop` behind a drop at another node, as reports count it
+abbrev pub drop_pieces : End → List Piece
+drop_pieces end = map pieces.Visit (drop_visit end)
+
+-- the pieces show the way of a packet that went so: its legs, and the visit of `error-drop` behind a drop at another node
 abbrev pub IsStory : Visit → Planned → (workers : ℕ) → Went → List Piece → Type 0
 IsStory visit plan workers went told =
-    AddsLegs visit plan workers went.legs.now went.visits.now (fresh went.number (received went.bytes.now)) [] told
+    (legs : List Piece) × AddsLegs visit plan workers went.legs.now went.visits.now (fresh went.number (received went.bytes.now)) [] legs
+    × (told ≡ legs ++ drop_pieces went.end)

@@ -1,12 +1,10 @@
 //! What is counted of packets.
 ghost use Rattle.std.specs.Prelude.{◌≡◌, ◌++◌, None, OnOk};
-ghost use Rattle.vg_model.specs.Count.{is_drop as is_drop_of, is_sent_on as is_sent_over};
-ghost use Rattle.vg_model.specs.Route.{same_prefix, same_prefix6};
 ghost use Rattle.vg_ways.specs.Entries as counted;
 
 use crate::stories::Went;
 use std::alloc::AllocError;
-use vg_model::{DropError, End, Leg, Prefix, Prefix6};
+use vg_model::{End, Leg, Prefix, Prefix6};
 use vg_story::{Fact, Piece, Value, Word};
 
 /// Something that is counted of a packet.
@@ -137,104 +135,4 @@ pub fn put_entries(
         last_via(pieces),
         went.end,
     )
-}
-
-impl Entry {
-    // Whether it is the begin of a packet.
-    pub(crate) fn is_began(&self) -> bool
-        ensures { result ≡ counted.is_began self.now }
-    {
-        matches!(self, Entry::Began)
-    }
-
-    // Whether it is a match of the route of this prefix.
-    pub(crate) fn is_matched(&self, prefix: Prefix) -> bool
-        ensures { result ≡ counted.is_matched prefix self.now }
-    {
-        match self {
-            Entry::Matched(matched) => is_same(*matched, prefix),
-            _ => false,
-        }
-    }
-
-    // The same for IPv6.
-    pub(crate) fn is_matched6(&self, prefix: Prefix6) -> bool
-        ensures { result ≡ counted.is_matched6 prefix self.now }
-    {
-        match self {
-            Entry::Matched6(matched) => is_same6(*matched, prefix),
-            _ => false,
-        }
-    }
-
-    // Whether the packet was transmitted to this neighbor.
-    pub(crate) fn is_left(&self, neighbor: u16) -> bool
-        ensures { result ≡ counted.is_left neighbor self.now }
-    {
-        match self {
-            Entry::Left(Some(other)) => *other == neighbor,
-            _ => false,
-        }
-    }
-
-    // Whether the packet was transmitted to no neighbor.
-    pub(crate) fn is_left_alone(&self) -> bool
-        ensures { result ≡ counted.is_left_alone self.now }
-    {
-        matches!(self, Entry::Left(None))
-    }
-
-    // Whether the packet was transmitted on this interface.
-    pub(crate) fn is_tx(&self, interface: u16) -> bool
-        ensures { result ≡ counted.is_tx interface self.now }
-    {
-        match self {
-            Entry::Ended(end) => is_sent_on(interface, *end),
-            _ => false,
-        }
-    }
-
-    // Whether this node dropped the packet with this error.
-    pub(crate) fn is_dropped(&self, node: u16, error: DropError) -> bool
-        ensures { result ≡ counted.is_dropped node error self.now }
-    {
-        match self {
-            Entry::Ended(end) => is_drop(node, error, *end),
-            _ => false,
-        }
-    }
-}
-
-// Whether two prefixes are the same.
-pub(crate) fn is_same(one: Prefix, other: Prefix) -> bool
-    ensures { result ≡ same_prefix one other }
-{
-    one.addr == other.addr && one.len == other.len
-}
-
-// The same for IPv6.
-pub(crate) fn is_same6(one: Prefix6, other: Prefix6) -> bool
-    ensures { result ≡ same_prefix6 one other }
-{
-    one.addr == other.addr && one.len == other.len
-}
-
-// Whether it is the drop of a node with an error.
-fn is_drop(node: u16, error: DropError, end: End) -> bool
-    ensures { result ≡ is_drop_of node error end }
-{
-    match end {
-        End::Dropped { node: n, error: e } => n == node && e.number() == error.number(),
-        End::Tx { .. } => false,
-    }
-}
-
-// Whether it is on an interface.
-fn is_sent_on(interface: u16, end: End) -> bool
-    ensures { result ≡ is_sent_over interface end }
-{
-    match end {
-        End::Tx { interface: i } => i == interface,
-        End::Dropped { .. } => false,
-    }
 }

@@ -6,11 +6,13 @@
 //! [`put_entries`] makes of a packet's pieces what is counted of it, and [`put_counts`] writes the table; the [`laws`] say that what is counted
 //! under each generation adds up.
 //!
-//! In which order to read: `lines`, `stages`, `stories`, `clocks` and `telling`; `entries`, `logs`, `prefixes` and `tables`; `laws` by itself.
+//! In which order to read: `lines`, `stages`, `stories`, `clocks` and `telling`; `entries`, `keys`, `tallies`, `logs`, `prefixes` and `tables`; `laws`
+//! by itself.
 #![tactic(auto)]
 
 mod clocks;
 mod entries;
+mod keys;
 pub mod laws;
 mod lines;
 mod logs;
@@ -18,6 +20,7 @@ mod prefixes;
 mod stages;
 mod stories;
 mod tables;
+mod tallies;
 mod telling;
 
 pub use clocks::Clock;

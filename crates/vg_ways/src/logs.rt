@@ -1,17 +1,20 @@
 //! Entries by the generation where they were made.
-ghost use Rattle.std.specs.Prelude.{◌≡◌, ◌<◌, ◌++◌, [], ◌∷◌, length, map, replicate, slice_set, slice_index_or, IfOk, OnOk};
-ghost use Rattle.vg_ways.specs.Logs.{lists_of, lists_with, all_with, IsLogOf};
+ghost use Rattle.std.specs.Prelude.{◌≡◌, ◌<◌, length, map, replicate, slice_set, IfOk, OnOk};
+ghost use Rattle.vg_ways.specs.Logs.{all_with, none, tallies_of, tallies_with, tally_at, tally_of_all, HasRoom, IsLogOf};
+ghost use Rattle.vg_ways.specs.Tallied.{with_entry};
+ghost use Rattle.vg_ways.specs.Tallies.{tally_in};
 
 use crate::entries::Entry;
+use crate::tallies::Tally;
 use std::alloc::{AllocError, Global};
 
-/// Entries by generation.
+/// How many entries count for each line.
 #[derive(Drop)]
 pub struct Log {
-    /// Those under each generation.
-    pub lists: Vec<Vec<Entry>>,
-    /// All of them.
-    pub all: Vec<Entry>,
+    /// Under each generation.
+    pub tallies: Vec<Tally>,
+    /// Of all of them.
+    pub all: Tally,
 }
 
 /// The entries that are under one of so many generations, by generation.
@@ -23,8 +26,8 @@ pub fn log_of(alloc: Global, generations: u32, entries: &[(u32, Entry)]) -> Resu
     ensures { IfOk result (IsLogOf generations entries.now) }
 {
     let mut log = Log {
-        lists: no_lists(alloc, generations)?,
-        all: Vec::new(alloc),
+        tallies: no_tallies(alloc, generations)?,
+        all: Tally::new(alloc),
     };
     for entry in entries {
         put_entry(&mut log, *entry)?;
@@ -32,36 +35,38 @@ pub fn log_of(alloc: Global, generations: u32, entries: &[(u32, Entry)]) -> Resu
     Ok(log)
 }
 
-// Adds an entry, where there is a list of its generation.
+// Adds an entry, where there is its generation.
 fn put_entry(log: &mut Log, entry: (u32, Entry)) -> Result<(), AllocError>
-    ensures lists { OnOk result (lists_of log.new ≡ lists_with (lists_of log.old) entry) }
-    ensures all { OnOk result (log.new.all.items ≡ all_with (length log.old.lists.items) log.old.all.items entry) }
+    requires { HasRoom entry log.old }
+    ensures tallies { OnOk result (tallies_of log.new ≡ tallies_with (tallies_of log.old) entry) }
+    ensures all { OnOk result (tally_of_all log.new ≡ all_with (length log.old.tallies.items) (tally_of_all log.old) entry) }
 {
-    if (entry.0 as usize) < log.lists.len() {
+    if (entry.0 as usize) < log.tallies.len() {
         put_under(log, entry.0, entry.1)
     } else {
         Ok(())
     }
 }
 
-// Adds an entry to the list of its generation, and to all.
+// Adds an entry under its generation, and to all.
 fn put_under(log: &mut Log, generation: u32, entry: Entry) -> Result<(), AllocError>
-    requires { generation < length log.old.lists.items }
-    ensures lists { OnOk result (lists_of log.new ≡ slice_set (lists_of log.old) generation (slice_index_or (lists_of log.old) generation [] ++ entry ∷ [])) }
-    ensures all { OnOk result (log.new.all.items ≡ log.old.all.items ++ entry ∷ []) }
+    requires generation { generation < length log.old.tallies.items }
+    requires room { HasRoom (generation, entry) log.old }
+    ensures tallies { OnOk result (tallies_of log.new
+        ≡ slice_set (tallies_of log.old) generation (with_entry (tally_at (tallies_of log.old) generation) entry)) }
+    ensures all { OnOk result (tally_of_all log.new ≡ with_entry (tally_of_all log.old) entry) }
 {
-    log.lists[generation as usize].push(entry)?;
-    log.all.push(entry)?;
-    Ok(())
+    log.tallies[generation as usize].put(entry)?;
+    log.all.put(entry)
 }
 
-// So many lists with no entry.
-fn no_lists(alloc: Global, count: u32) -> Result<Vec<Vec<Entry>>, AllocError>
-    ensures { IfOk result (λ lists. map (λ list. list.items) lists.items ≡ replicate count []) }
+// So many, each of no entry.
+fn no_tallies(alloc: Global, count: u32) -> Result<Vec<Tally>, AllocError>
+    ensures { IfOk result (λ tallies. map tally_in tallies.items ≡ replicate count none) }
 {
-    let mut lists = Vec::with_capacity(alloc, count as usize)?;
+    let mut tallies = Vec::with_capacity(alloc, count as usize)?;
     for _ in 0..count {
-        lists.push(Vec::new(alloc))?;
+        tallies.push(Tally::new(alloc))?;
     }
-    Ok(lists)
+    Ok(tallies)
 }

@@ -1,17 +1,18 @@
 //! The generations that packets go through, made one after the other and kept as long as packets may need them.
-ghost use Rattle.std.specs.Prelude.{◌≡◌, ◌+◌, ◌<◌, ◌≤◌, [], Some, IfOk, IfSome, IsSome, OnOk, OnErr, is_some, length, slice_get, option_map};
+ghost use Rattle.std.specs.Prelude.{◌≡◌, ◌+◌, ◌<◌, ◌≤◌, ℕ, [], None, Some, IfOk, IfSome, IsSome, OnOk, OnErr, is_some, length, nat_lt, not, ◌&&◌, slice_get, option_map};
 ghost use Rattle.vg_ways.specs.Counts.{all_edits, with_sets, with_sets6};
 ghost use Rattle.vg_plan.specs.Run.{seen};
 ghost use Rattle.vg_ways.specs.Events.{event_of, time_of};
+ghost use Rattle.vg_ways.specs.Known.{AreKnown};
 ghost use Rattle.vg_ways.specs.LinesView.{line_in, line6_in};
-ghost use Rattle.vg_ways.specs.Stages.{kept_at, IsStageOf, IsStageWith};
+ghost use Rattle.vg_ways.specs.Stages.{kept_at, AreForgotten, IsStageOf, IsStageWith};
 
 use crate::lines::RouteLines;
-use crate::prefixes::{put_sets, put_sets6};
+use crate::prefixes::Known;
 use std::alloc::{AllocError, Global};
 use std::marker::Model;
 use vg_fork::Fork;
-use vg_model::{Memory, Prefix, Prefix6};
+use vg_model::Memory;
 use vg_plan::events::{Run, in_order};
 use vg_plan::{Generations, Master, Plan};
 use vg_story::Stage;
@@ -26,6 +27,8 @@ pub struct Stages<'a> {
     later: Option<Generations<'a>>,
     lines: RouteLines,
     made: Vec<Option<Stage>>,
+    // None before this one is kept.
+    kept_from: usize,
 }
 
 impl<'a> Model for Stages<'a> {
@@ -71,6 +74,17 @@ fn stage_of(
     })
 }
 
+// Forgets what is kept at the places from one to another.
+fn forget_between(made: &mut Vec<Option<Stage>>, from: usize, before: usize)
+    requires from { from ≤ before }
+    requires before { before ≤ length made.old.items }
+    ensures { AreForgotten from before made.old.items made.new.items }
+{
+    for place in from..before {
+        made[place] = None;
+    }
+}
+
 impl<'a> Stages<'a> {
     /// With the first generation made.
     ///
@@ -96,6 +110,7 @@ impl<'a> Stages<'a> {
             later: Some(later),
             lines,
             made,
+            kept_from: 0,
         })
     }
 
@@ -141,26 +156,14 @@ impl<'a> Stages<'a> {
         self.plan.generations()
     }
 
-    // The prefixes of all IPv4 routes that there ever are, in the order in which they are first set, each with no line.
-    pub(crate) fn prefixes(&self, alloc: Global) -> Result<Vec<(Prefix, u32)>, AllocError>
-        ensures { IfOk result (λ known. known.items ≡ with_sets [] (all_edits self.now.plan.script)) }
+    // The prefixes of all routes that there ever are, in the order in which they are first set.
+    pub(crate) fn prefixes(&self, alloc: Global) -> Result<Known, AllocError>
+        ensures { IfOk result (AreKnown (with_sets [] (all_edits self.now.plan.script)) (with_sets6 [] (all_edits self.now.plan.script))) }
     {
-        let mut known = Vec::new(alloc);
-        put_sets(&mut known, &self.plan.script().start)?;
+        let mut known = Known::new(alloc);
+        known.put_all(&self.plan.script().start)?;
         for event in self.events.as_slice() {
-            put_sets(&mut known, event.edits)?;
-        }
-        Ok(known)
-    }
-
-    // The same for IPv6.
-    pub(crate) fn prefixes6(&self, alloc: Global) -> Result<Vec<(Prefix6, u32)>, AllocError>
-        ensures { IfOk result (λ known. known.items ≡ with_sets6 [] (all_edits self.now.plan.script)) }
-    {
-        let mut known = Vec::new(alloc);
-        put_sets6(&mut known, &self.plan.script().start)?;
-        for event in self.events.as_slice() {
-            put_sets6(&mut known, event.edits)?;
+            known.put_all(event.edits)?;
         }
         Ok(known)
     }
@@ -204,20 +207,60 @@ impl<'a> Stages<'a> {
         Ok(())
     }
 
-    // Makes generations from the first on until this one is made.
+    // Makes generations until this one is made, and keeps none before it.
+    fn make_only(&mut self, generation: u32) -> Result<(), Memory>
+        requires generation { generation < length self.old.plan.graphs }
+        requires kept { generation < length self.old.kept → IsSome (kept_at self.old generation) }
+        ensures plan { self.new.plan ≡ self.old.plan }
+        ensures kept { OnOk result (IsSome (kept_at self.new generation)) }
+        ensures none { OnOk result ((before : ℕ) → before < generation → kept_at self.new before ≡ None) }
+    {
+        self.forget(generation);
+        while self.made.len() <= generation as usize {
+            self.make_next()?;
+            self.forget(generation);
+        }
+        Ok(())
+    }
+
+    // The same, from the first generation on.
     fn make_again(&mut self, generation: u32) -> Result<(), Memory>
         requires { generation < length self.old.plan.graphs }
         ensures plan { self.new.plan ≡ self.old.plan }
         ensures kept { OnOk result (IsSome (kept_at self.new generation)) }
+        ensures none { OnOk result ((before : ℕ) → before < generation → kept_at self.new before ≡ None) }
     {
         *self = Stages::new(self.alloc, self.plan)?;
-        if generation == 0 {
-            return Ok(());
-        }
-        self.make_up_to(generation)
+        self.make_only(generation)
     }
 
-    /// Sees to it that a generation is kept. One that was forgotten is made again, with all before it.
+    // Whether a generation was made and forgotten.
+    fn is_forgotten(&self, generation: u32) -> bool
+        ensures { result ≡ (nat_lt generation (length self.now.kept) && not (is_some (kept_at self.now generation))) }
+    {
+        (generation as usize) < self.made() && self.get(generation).is_none()
+    }
+
+    /// Sees to it that a generation is kept, and none before it. One that was forgotten is made again, and so are all before it, one after the
+    /// other.
+    ///
+    /// # Errors
+    ///
+    /// [`Memory`] where memory runs out.
+    pub fn advance_to(&mut self, generation: u32) -> Result<(), Memory>
+        requires { generation < length self.old.plan.graphs }
+        ensures plan { self.new.plan ≡ self.old.plan }
+        ensures kept { OnOk result (IsSome (kept_at self.new generation)) }
+        ensures none { OnOk result ((before : ℕ) → before < generation → kept_at self.new before ≡ None) }
+    {
+        if self.is_forgotten(generation) {
+            return self.make_again(generation);
+        }
+        self.make_only(generation)
+    }
+
+    /// Sees to it that a generation is kept, with those between it and the ones that are kept. One that was forgotten is made again, and then none
+    /// before it is kept.
     ///
     /// # Errors
     ///
@@ -236,23 +279,16 @@ impl<'a> Stages<'a> {
         self.make_again(generation)
     }
 
-    /// Forgets the generations before this one.
+    /// Forgets the generations before this one, and no other.
     pub fn forget(&mut self, before: u32)
-        ensures { self.new.plan ≡ self.old.plan }
+        ensures plan { self.new.plan ≡ self.old.plan }
+        ensures len { length self.new.kept ≡ length self.old.kept }
+        ensures none { (generation : ℕ) → generation < before → kept_at self.new generation ≡ None }
+        ensures others { (generation : ℕ) → before ≤ generation → kept_at self.new generation ≡ kept_at self.old generation }
     {
-        for generation in 0..before {
-            self.forget_one(generation);
-        }
-    }
-
-    // Forgets a generation, where it is made.
-    fn forget_one(&mut self, generation: u32)
-        ensures { self.new.plan ≡ self.old.plan }
-    {
-        let generation = generation as usize;
-        if generation < self.made.len() {
-            self.made[generation] = None;
-        }
+        let before = self.made.len().min(before as usize).max(self.kept_from);
+        forget_between(&mut self.made, self.kept_from, before);
+        self.kept_from = before;
     }
 
     /// A generation, where it is kept.

@@ -1,11 +1,12 @@
 //! The way of a packet, leg by leg.
-ghost use Rattle.std.specs.Prelude.{◌≡◌, ◌<◌, ◌≤◌, length, OnOk};
+ghost use Rattle.std.specs.Prelude.{◌≡◌, ◌<◌, ◌≤◌, ◌++◌, length, OnOk};
 ghost use Rattle.std.specs.List.{AllByRecursion};
-ghost use Rattle.vg_ways.specs.Stories.{before_dequeue as before_dequeue_of, leg_len as leg_len_of, received as received_of, AddsLeg, AddsLegs, IsStory};
+ghost use Rattle.vg_ways.specs.Stories.{before_dequeue as before_dequeue_of, drop_pieces, leg_len as leg_len_of, received as received_of, AddsLeg, AddsLegs, IsStory};
 
 use crate::stages::Stages;
+use std::alloc::AllocError;
 use vg_model::limits::LONGEST_PACKET;
-use vg_model::start::HANDOFF_DEQUEUE;
+use vg_model::start::{ERROR_DROP, HANDOFF_DEQUEUE};
 use vg_model::{End, Leg, Memory};
 use vg_nodes::KindSet;
 use vg_story::{Chain, Piece, put_visits};
@@ -102,6 +103,21 @@ fn put_legs<K: KindSet>(
     Ok(())
 }
 
+// Adds the visit of `error-drop` behind a drop at another node.
+fn put_drop_visit(pieces: &mut Vec<Piece>, end: End) -> Result<(), AllocError>
+    ensures { OnOk result (pieces.new.items ≡ pieces.old.items ++ drop_pieces end) }
+{
+    match end {
+        End::Dropped { node, .. } => {
+            if node != ERROR_DROP {
+                pieces.push(Piece::Visit { node: ERROR_DROP })?;
+            }
+        }
+        End::Tx { .. } => {}
+    }
+    Ok(())
+}
+
 // The bytes of a packet that come into buffers: none of one that is too long.
 fn received(bytes: &[u8]) -> &[u8]
     ensures bytes { result.now ≡ received_of bytes.now }
@@ -113,7 +129,8 @@ fn received(bytes: &[u8]) -> &[u8]
     bytes
 }
 
-/// The pieces of a packet's way, in place of what the list had before.
+/// The pieces of a packet's way, in place of what the list had before. The last is a visit of `error-drop` where another node dropped the packet, as
+/// reports count it.
 ///
 /// # Errors
 ///
@@ -141,5 +158,7 @@ pub fn put_story<K: KindSet>(
         went.legs,
         went.visits,
         chain,
-    )
+    )?;
+    put_drop_visit(pieces, went.end)?;
+    Ok(())
 }

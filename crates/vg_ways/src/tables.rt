@@ -1,13 +1,14 @@
 //! The table of counts as text. Each function appends to one growing buffer; where memory runs out it stops.
-ghost use Rattle.std.specs.Prelude.{◌≡◌, ◌<◌, ◌++◌, ◌^◌, count_by, codes, flat_map, length, map, slice_get, IsSome, OnOk};
+ghost use Rattle.std.specs.Prelude.{◌≡◌, ◌<◌, ◌++◌, ◌^◌, codes, flat_map, length, map, slice_get, IsSome, OnOk};
 ghost use Rattle.vg_ways.specs.Counts as tables;
-ghost use Rattle.vg_ways.specs.Entries as counted;
 ghost use Rattle.vg_ways.specs.Stages.{kept_at, IsStageOf};
+ghost use Rattle.vg_ways.specs.Tallies.{tally_in};
 ghost use Rattle.vg_ways.specs.Ways.{numbered_if};
 
 use crate::entries::Entry;
 use crate::logs::log_of;
 use crate::stages::Stages;
+use crate::tallies::Tally;
 use std::alloc::{AllocError, Global};
 use vg_fork::Fork;
 use vg_graph::Graph;
@@ -58,37 +59,17 @@ fn put_route(
     put_last(out, b" matched ", count)
 }
 
-// How many of these entries are matches of the route of this prefix.
-fn matches(entries: &[Entry], prefix: Prefix) -> usize
-    ensures { result ≡ count_by (counted.is_matched prefix) entries.now }
-{
-    entries
-        .iter()
-        .filter(|entry| entry.is_matched(prefix))
-        .count()
-}
-
-// The same for IPv6.
-fn matches6(entries: &[Entry], prefix: Prefix6) -> usize
-    ensures { result ≡ count_by (counted.is_matched6 prefix) entries.now }
-{
-    entries
-        .iter()
-        .filter(|entry| entry.is_matched6(prefix))
-        .count()
-}
-
 // Appends the lines of routes.
 fn put_routes(
     out: &mut Vec<u8>,
     names: &Graph,
-    entries: &[Entry],
+    tally: &Tally,
     routes: &[(Prefix, u32)],
 ) -> Result<(), AllocError>
-    ensures { OnOk result (out.new.items ≡ out.old.items ++ tables.routes_text names.now entries.now routes.now) }
+    ensures { OnOk result (out.new.items ≡ out.old.items ++ tables.routes_text names.now (tally_in tally.now).matched routes.now) }
 {
     for route in routes {
-        let count = matches(entries, route.0);
+        let count = tally.matched(route.0);
         put_route(out, names, Value::Prefix(route.0), route.1, count)?;
     }
     Ok(())
@@ -98,13 +79,13 @@ fn put_routes(
 fn put_routes6(
     out: &mut Vec<u8>,
     names: &Graph,
-    entries: &[Entry],
+    tally: &Tally,
     routes: &[(Prefix6, u32)],
 ) -> Result<(), AllocError>
-    ensures { OnOk result (out.new.items ≡ out.old.items ++ tables.routes6_text names.now entries.now routes.now) }
+    ensures { OnOk result (out.new.items ≡ out.old.items ++ tables.routes6_text names.now (tally_in tally.now).matched6 routes.now) }
 {
     for route in routes {
-        let count = matches6(entries, route.0);
+        let count = tally.matched6(route.0);
         put_route(out, names, Value::Prefix6(route.0), route.1, count)?;
     }
     Ok(())
@@ -114,12 +95,12 @@ fn put_routes6(
 fn put_neighbor(
     out: &mut Vec<u8>,
     names: &Graph,
-    entries: &[Entry],
+    tally: &Tally,
     number: u16,
 ) -> Result<(), AllocError>
-    ensures { OnOk result (out.new.items ≡ out.old.items ++ tables.neighbor_text names.now entries.now number) }
+    ensures { OnOk result (out.new.items ≡ out.old.items ++ tables.neighbor_text names.now (tally_in tally.now).left number) }
 {
-    let count = entries.iter().filter(|entry| entry.is_left(number)).count();
+    let count = tally.left(number);
     put(out, b"  neighbor ")?;
     put_value(out, names, Value::Neighbor(number))?;
     put_last(out, b" left ", count)
@@ -130,22 +111,15 @@ fn put_neighbor(
 fn put_neighbors(
     out: &mut Vec<u8>,
     names: &Graph,
-    entries: &[Entry],
+    tally: &Tally,
     count: u16,
 ) -> Result<(), AllocError>
-    ensures { OnOk result (out.new.items ≡ out.old.items ++ tables.texts_below (tables.neighbor_text names.now entries.now) count) }
+    ensures { OnOk result (out.new.items ≡ out.old.items ++ tables.texts_below (tables.neighbor_text names.now (tally_in tally.now).left) count) }
 {
     for number in 0..count {
-        put_neighbor(out, names, entries, number)?;
+        put_neighbor(out, names, tally, number)?;
     }
     Ok(())
-}
-
-// How many of these entries are packets that were transmitted to no neighbor.
-fn alone(entries: &[Entry]) -> usize
-    ensures { result ≡ count_by counted.is_left_alone entries.now }
-{
-    entries.iter().filter(|entry| entry.is_left_alone()).count()
 }
 
 // Appends the line of the packets that were transmitted to no neighbor, where there are some.
@@ -158,23 +132,11 @@ fn put_alone(out: &mut Vec<u8>, count: usize) -> Result<(), AllocError>
     put_last(out, b"  no-neighbor left ", count)
 }
 
-// How many of these entries are packets that were transmitted on this interface.
-fn sends(entries: &[Entry], number: u16) -> usize
-    ensures { result ≡ count_by (counted.is_tx number) entries.now }
-{
-    entries.iter().filter(|entry| entry.is_tx(number)).count()
-}
-
 // Appends the line of an interface.
-fn put_tx(
-    out: &mut Vec<u8>,
-    names: &Graph,
-    entries: &[Entry],
-    number: u16,
-) -> Result<(), AllocError>
-    ensures { OnOk result (out.new.items ≡ out.old.items ++ tables.interface_text names.now entries.now number) }
+fn put_tx(out: &mut Vec<u8>, names: &Graph, tally: &Tally, number: u16) -> Result<(), AllocError>
+    ensures { OnOk result (out.new.items ≡ out.old.items ++ tables.interface_text names.now (tally_in tally.now).sent number) }
 {
-    let count = sends(entries, number);
+    let count = tally.sent(number);
     put(out, b"  interface ")?;
     put_interface(out, names, number)?;
     put_last(out, b" tx ", count)
@@ -185,25 +147,15 @@ fn put_tx(
 fn put_interfaces(
     out: &mut Vec<u8>,
     names: &Graph,
-    entries: &[Entry],
+    tally: &Tally,
     count: u16,
 ) -> Result<(), AllocError>
-    ensures { OnOk result (out.new.items ≡ out.old.items ++ tables.texts_below (tables.interface_text names.now entries.now) count) }
+    ensures { OnOk result (out.new.items ≡ out.old.items ++ tables.texts_below (tables.interface_text names.now (tally_in tally.now).sent) count) }
 {
     for number in 0..count {
-        put_tx(out, names, entries, number)?;
+        put_tx(out, names, tally, number)?;
     }
     Ok(())
-}
-
-// How many of these entries are drops of a node with an error.
-fn drops(entries: &[Entry], node: u16, error: DropError) -> usize
-    ensures { result ≡ count_by (counted.is_dropped node error) entries.now }
-{
-    entries
-        .iter()
-        .filter(|entry| entry.is_dropped(node, error))
-        .count()
 }
 
 // Appends the line of a node's drops with an error, where there are some.
@@ -226,33 +178,33 @@ fn put_drop(
     put_last(out, b" ", count)
 }
 
-// Appends the line of a node's drops with an error, as these entries have them.
+// Appends the line of a node's drops with an error, as they were counted.
 fn put_error(
     out: &mut Vec<u8>,
     names: &Graph,
-    entries: &[Entry],
+    tally: &Tally,
     node: u16,
     error: DropError,
 ) -> Result<(), AllocError>
     ensures { OnOk result (out.new.items ≡ out.old.items
-        ++ tables.drop_line names.now node error (count_by (counted.is_dropped node error) entries.now)) }
+        ++ tables.drop_line names.now node error ((tally_in tally.now).dropped node error)) }
 {
-    put_drop(out, names, node, error, drops(entries, node, error))
+    put_drop(out, names, node, error, tally.dropped(node, error))
 }
 
 // Appends the lines of a node's drops with these errors.
 fn put_drops_with(
     out: &mut Vec<u8>,
     names: &Graph,
-    entries: &[Entry],
+    tally: &Tally,
     node: u16,
     errors: &[DropError],
 ) -> Result<(), AllocError>
     ensures { OnOk result (out.new.items ≡ out.old.items
-        ++ flat_map (λ error. tables.drop_line names.now node error (count_by (counted.is_dropped node error) entries.now)) errors.now) }
+        ++ flat_map (λ error. tables.drop_line names.now node error ((tally_in tally.now).dropped node error)) errors.now) }
 {
     for error in errors {
-        put_error(out, names, entries, node, *error)?;
+        put_error(out, names, tally, node, *error)?;
     }
     Ok(())
 }
@@ -261,49 +213,32 @@ fn put_drops_with(
 fn put_node_drops(
     out: &mut Vec<u8>,
     names: &Graph,
-    entries: &[Entry],
+    tally: &Tally,
     node: u16,
 ) -> Result<(), AllocError>
-    ensures { OnOk result (out.new.items ≡ out.old.items ++ tables.node_text names.now entries.now node) }
+    ensures { OnOk result (out.new.items ≡ out.old.items ++ tables.node_text names.now (tally_in tally.now).dropped node) }
 {
-    put_drops_with(out, names, entries, node, &DropError::ALL)
+    put_drops_with(out, names, tally, node, &DropError::ALL)
 }
 
 // Appends the lines of the drops of the first so many nodes.
-fn put_drops(
-    out: &mut Vec<u8>,
-    names: &Graph,
-    entries: &[Entry],
-    count: u16,
-) -> Result<(), AllocError>
-    ensures { OnOk result (out.new.items ≡ out.old.items ++ tables.texts_below (tables.node_text names.now entries.now) count) }
+fn put_drops(out: &mut Vec<u8>, names: &Graph, tally: &Tally, count: u16) -> Result<(), AllocError>
+    ensures { OnOk result (out.new.items ≡ out.old.items ++ tables.texts_below (tables.node_text names.now (tally_in tally.now).dropped) count) }
 {
     for node in 0..count {
-        put_node_drops(out, names, entries, node)?;
+        put_node_drops(out, names, tally, node)?;
     }
     Ok(())
 }
 
 // Appends the lines of neighbors, interfaces and drops.
-fn put_ends(
-    out: &mut Vec<u8>,
-    names: &Graph,
-    size: Size,
-    entries: &[Entry],
-) -> Result<(), AllocError>
-    ensures { OnOk result (out.new.items ≡ out.old.items ++ tables.ends_text names.now size entries.now) }
+fn put_ends(out: &mut Vec<u8>, names: &Graph, size: Size, tally: &Tally) -> Result<(), AllocError>
+    ensures { OnOk result (out.new.items ≡ out.old.items ++ tables.ends_text names.now size (tally_in tally.now)) }
 {
-    put_neighbors(out, names, entries, size.neighbors)?;
-    put_alone(out, alone(entries))?;
-    put_interfaces(out, names, entries, size.interfaces)?;
-    put_drops(out, names, entries, size.nodes)
-}
-
-// How many packets began.
-fn begun(entries: &[Entry]) -> usize
-    ensures { result ≡ count_by counted.is_began entries.now }
-{
-    entries.iter().filter(|entry| entry.is_began()).count()
+    put_neighbors(out, names, tally, size.neighbors)?;
+    put_alone(out, tally.alone())?;
+    put_interfaces(out, names, tally, size.interfaces)?;
+    put_drops(out, names, tally, size.nodes)
 }
 
 // Appends the line of the script where a generation begins.
@@ -354,15 +289,15 @@ fn put_stage(
     names: &Graph,
     generation: u32,
     stage: &Stage,
-    entries: &[Entry],
+    tally: &Tally,
 ) -> Result<(), AllocError>
     requires { IsStageOf stages.now.plan generation stage.now }
-    ensures { OnOk result (out.new.items ≡ out.old.items ++ tables.table_text stages.now.plan.script names.now generation stage.now.fork.graph entries.now) }
+    ensures { OnOk result (out.new.items ≡ out.old.items ++ tables.table_text stages.now.plan.script names.now generation stage.now.fork.graph (tally_in tally.now)) }
 {
-    put_head(out, stages, generation, begun(entries))?;
-    put_routes(out, names, entries, stage.routes.as_slice())?;
-    put_routes6(out, names, entries, stage.routes6.as_slice())?;
-    put_ends(out, names, size_of(&stage.fork), entries)
+    put_head(out, stages, generation, tally.began())?;
+    put_routes(out, names, tally, stage.routes.as_slice())?;
+    put_routes6(out, names, tally, stage.routes6.as_slice())?;
+    put_ends(out, names, size_of(&stage.fork), tally)
 }
 
 // Appends the table of a generation that is kept.
@@ -371,14 +306,14 @@ fn put_kept(
     stages: &Stages<'_>,
     names: &Graph,
     generation: u32,
-    entries: &[Entry],
+    tally: &Tally,
 ) -> Result<(), AllocError>
     requires { IsSome (kept_at stages.now generation) }
     ensures { OnOk result (out.new.items ≡ out.old.items
-        ++ tables.table_at stages.now.plan names.now generation entries.now (slice_get stages.now.plan.graphs generation)) }
+        ++ tables.table_at stages.now.plan names.now generation (tally_in tally.now) (slice_get stages.now.plan.graphs generation)) }
 {
     match stages.get(generation) {
-        Some(stage) => put_stage(out, stages, names, generation, stage, entries),
+        Some(stage) => put_stage(out, stages, names, generation, stage, tally),
         None => unreachable!(),
     }
 }
@@ -389,33 +324,37 @@ fn put_generation(
     stages: &mut Stages<'_>,
     names: &Graph,
     generation: u32,
-    entries: &[Entry],
+    tally: &Tally,
 ) -> Result<(), Memory>
     requires { generation < length stages.old.plan.graphs }
     ensures plan { stages.new.plan ≡ stages.old.plan }
     ensures text { OnOk result (out.new.items ≡ out.old.items
-        ++ tables.table_at stages.old.plan names.now generation entries.now (slice_get stages.old.plan.graphs generation)) }
+        ++ tables.table_at stages.old.plan names.now generation (tally_in tally.now) (slice_get stages.old.plan.graphs generation)) }
 {
-    stages.reach(generation)?;
-    put_kept(out, stages, names, generation, entries)?;
-    stages.forget(generation);
+    stages.advance_to(generation)?;
+    put_kept(out, stages, names, generation, tally)?;
     Ok(())
 }
 
-// Appends the tables of all generations, each by its entries.
+// Appends the tables of all generations.
 fn put_generations(
     out: &mut Vec<u8>,
     stages: &mut Stages<'_>,
     names: &Graph,
-    lists: &[Vec<Entry>],
+    tallies: &[Tally],
 ) -> Result<(), Memory>
-    requires { length lists.now ≡ length stages.old.plan.graphs }
+    requires { length tallies.now ≡ length stages.old.plan.graphs }
     ensures plan { stages.new.plan ≡ stages.old.plan }
-    ensures text { OnOk result (out.new.items ≡ out.old.items ++ tables.tables_text stages.old.plan names.now (map (λ list. list.items) lists.now)) }
+    ensures text { OnOk result (out.new.items ≡ out.old.items ++ tables.tables_text stages.old.plan names.now (map tally_in tallies.now)) }
 {
     for generation in 0..stages.generations() {
-        let entries = lists[generation as usize].as_slice();
-        put_generation(out, stages, names, generation, entries)?;
+        put_generation(
+            out,
+            stages,
+            names,
+            generation,
+            &tallies[generation as usize],
+        )?;
     }
     Ok(())
 }
@@ -437,16 +376,15 @@ fn put_all(
     alloc: Global,
     stages: &Stages<'_>,
     names: &Graph,
-    entries: &[Entry],
+    tally: &Tally,
 ) -> Result<(), AllocError>
-    ensures { OnOk result (out.new.items ≡ out.old.items ++ tables.all_text stages.now.plan names.now entries.now) }
+    ensures { OnOk result (out.new.items ≡ out.old.items ++ tables.all_text stages.now.plan names.now (tally_in tally.now)) }
 {
-    let routes = stages.prefixes(alloc)?;
-    let routes6 = stages.prefixes6(alloc)?;
-    put_last(out, b"all packets ", begun(entries))?;
-    put_routes(out, names, entries, routes.as_slice())?;
-    put_routes6(out, names, entries, routes6.as_slice())?;
-    put_ends(out, names, last_size(names), entries)
+    let known = stages.prefixes(alloc)?;
+    put_last(out, b"all packets ", tally.began())?;
+    put_routes(out, names, tally, known.prefixes.as_slice())?;
+    put_routes6(out, names, tally, known.prefixes6.as_slice())?;
+    put_ends(out, names, last_size(names), tally)
 }
 
 /// Appends the table of counts of these entries: that of each generation, that of all packets, and a last line. The names are those of the last
@@ -466,8 +404,8 @@ pub fn put_counts(
     ensures { OnOk result (out.new.items ≡ out.old.items ++ tables.counts_text stages.old.plan names.now entries.now) }
 {
     let log = log_of(alloc, stages.generations(), entries)?;
-    put_generations(out, stages, names, log.lists.as_slice())?;
-    put_all(out, alloc, stages, names, log.all.as_slice())?;
+    put_generations(out, stages, names, log.tallies.as_slice())?;
+    put_all(out, alloc, stages, names, &log.all)?;
     put(out, b"end\n")?;
     Ok(())
 }

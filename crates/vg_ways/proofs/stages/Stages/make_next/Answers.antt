@@ -1,12 +1,13 @@
 -- For `Stages::make_next`: the invariant of what it makes, a cast.
-use Rattle.std.proofs.Common.{◌≡◌, ◌+◌, ◌-◌, ◌<◌, ◌∷◌, [], List, length, drop, get_or, sym, ap, subst, ◌∙◌, arith, length-append}
-use Rattle.std.specs.Prelude.{Option, Some, IfSome}
+use Rattle.std.proofs.Common.{◌≡◌, ℕ, ◌+◌, ◌-◌, ◌<◌, ◌∷◌, [], List, length, drop, get_or, sym, ap, subst, ◌∙◌, arith, length-append}
+use Rattle.std.specs.Prelude.{Option, Some, None, IfSome, slice_index_or}
+use Rattle.vg_story.specs.declared.stages.Stage.{Stage}
 use Rattle.vg_model.specs.Graph.{Graph}
 use Rattle.vg_ways.specs.Stages.{Shown}
 use Rattle.vg_ways.specs.LinesView.{AreLinesOf}
 use Rattle.vg_plan.specs.Run.{seen}
 use Rattle.vg_ways.proofs.LineLemmas.{next_lines}
-use Rattle.vg_ways.proofs.StageLemmas.{AreKept, kept_push, next_left, next_stage, event_read}
+use Rattle.vg_ways.proofs.StageLemmas.{AreKept, kept_push, forgotten_push, next_left, next_stage, event_read}
 use Rattle.std.proofs.lemmas.List.{length-map}
 use Rattle.vg_ways.proofs.stages.Stages.make_next.Goals as goal
 
@@ -51,4 +52,7 @@ invariant_of-self-2 c =
       lines = subst (λ k. AreLinesOf script k c.put_all.new.self) (let last : n ≡ length c.push.new.self.items - 1 = omega (arith, more) in last) lines;
       kept = subst (AreKept plan) (sym c.in_ok-push.ensures.items)
           (kept_push plan made stage kept.kept (next_stage plan left c.master.ensures lines c.in_ok-stage.ensures));
+      kept_from = (let from = kept.kept_from in omega (arith, from, more));
+      forgotten = subst (λ (ms : List (Option Stage)). (g : ℕ) → g < c.self.inside.kept_from → slice_index_or ms g None ≡ None) (sym c.in_ok-push.ensures.items)
+          (forgotten_push made (Some stage) c.self.inside.kept_from kept.kept_from kept.forgotten);
     }

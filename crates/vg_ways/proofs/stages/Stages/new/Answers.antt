@@ -32,4 +32,6 @@ invariant_of-result c =
       lines = subst (λ k. AreLinesOf plan.script k c.in_ok-lines.lines) (sym none) lines;
       kept = subst (AreKept plan) (sym made)
           (first_kept plan c.in_ok-later.ensures c.master.ensures lines c.in_ok-first.ensures);
+      kept_from = omega (arith, one);
+      forgotten = λ g h. absurd (omega (arith, h));
     }

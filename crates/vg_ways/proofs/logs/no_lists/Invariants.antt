@@ -1,7 +1,0 @@
--- For `no_lists`: its loop.
-use Rattle.std.proofs.Common.{◌≡◌, [], map}
-use Rattle.std.specs.Prelude.{replicate}
-use Rattle.vg_ways.proofs.logs.no_lists.Given as goal
-
-abbrev pub invariant-loop : goal.invariant-loop
-invariant-loop l = map (λ list. list.items) l.lists.items ≡ replicate l.counter []
