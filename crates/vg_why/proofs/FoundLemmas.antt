@@ -1,20 +1,26 @@
 -- For `text_of`, `journeys_told`, `report_told` and `found`: from a replay to what is found of a call's files.
-use Rattle.std.proofs.Common.{◌≡◌, ℕ, true, List, [], ◌∷◌, length, map, refl, sym, ap, ◌∙◌, arith}
-use Rattle.std.specs.Prelude.{Result, Ok, Err}
+use Rattle.std.proofs.Common.{◌≡◌, ℕ, true, List, [], ◌∷◌, length, map, refl, sym, ap, subst, ◌∙◌, arith}
+use Rattle.std.specs.Prelude.{Result, Ok, Err, Some, slice_get, option_map, option_and_then}
 use Rattle.std.specs.List.{AllByRecursion}
 use Rattle.std.proofs.lemmas.List.{take_all, length-map}
+use Rattle.std.proofs.lemmas.Option.{same_Some, slice_get-map}
 use Rattle.vg_model.specs.declared.fates.Leg.{Leg}
 use Rattle.vg_model.specs.Journey.{Course, Journey, Choice}
+use Rattle.vg_model.specs.Graph.{Graph}
 use Rattle.vg_model.specs.Lawful.{StartsAt, NeverFall}
+use Rattle.vg_model.specs.Valid.{IsValid}
+use Rattle.vg_model.proofs.Journeys.{then_some}
 use Rattle.vg_capture.specs.declared.captures.Capture.{Capture}
-use Rattle.vg_plan.specs.Plan.{Planned}
+use Rattle.vg_capture.specs.declared.captures.Captured.{Captured}
+use Rattle.vg_plan.specs.Plan.{Planned, IsGeneration, IsPlan}
 use Rattle.vg_report.specs.declared.reports.PacketLine.{PacketLine}
 use Rattle.vg_report.specs.declared.reports.Report.{Report}
 use Rattle.vg_replay.specs.declared.inputs.Input.{Input}
 use Rattle.vg_replay.specs.declared.replaying.Replayed.{Replayed}
 use Rattle.vg_replay.specs.Replays.{task_of, AreReplayed, IsInput}
-use Rattle.vg_replay.specs.Tasks.{Task, choice_of}
-use Rattle.vg_replay.proofs.ReplayLemmas.{as_many_journeys}
+use Rattle.vg_replay.specs.Counts.{journey_at}
+use Rattle.vg_replay.specs.Tasks.{Task, choice_of, journey_under}
+use Rattle.vg_replay.proofs.ReplayLemmas.{as_many_journeys, journey_of_all}
 use Rattle.vg_check.specs.declared.verdicts.Verdict.{Verdict}
 use Rattle.vg_check.specs.declared.verdicts.Verdict.TheVariants as verdicts
 use Rattle.vg_check.specs.Verdicts.{Case, IsHeaded, task_by}
@@ -25,11 +31,12 @@ use Rattle.vg_files.specs.Kinds.{vgd_visit}
 use Rattle.vg_files.specs.Stops.{IsRefusedFor}
 use Rattle.vg_files.specs.declared.refusals.Refusal.{Refusal}
 use Rattle.vg_files.specs.declared.refusals.Refusal.TheVariants as refusals
+use Rattle.vg_ways.specs.Legs.{JourneysAreShown}
 use Rattle.vg_why.specs.Asked.{Asked, are_below}
 use Rattle.vg_why.specs.Files.{IsFound, IsRefusedBy, IsNoJourney, case_in}
 use Rattle.vg_why.specs.Reading.{IsReportRefusal, IsTextRefusal}
 use Rattle.vg_why.specs.Texts.{IsToldOf, IsToldBy, IsUntold, IsUntoldBy, IsChoiceFault, IsChoiceRefusal}
-use Rattle.vg_why.specs.Trips.{gone_of, AreTrips, AreLegsUnder, AreUnder}
+use Rattle.vg_why.specs.Trips.{gone_of, AreTrips, AreLegsUnder, AreUnder, ComesOut}
 use Rattle.vg_why.proofs.TripLemmas.{trips_under}
 
 -- ---- what a replay has
@@ -52,6 +59,11 @@ all_below : (n : ℕ) (first : ℕ → ℕ) (js : List Journey)
     → AllByRecursion (λ (j : Journey). AreLegsUnder n j.course.legs) js
 all_below n first [] h = tt
 all_below n first (j ∷ js) h = (start_below n (first j.number) j.course.legs h.0, all_below n first js h.1)
+
+-- the graphs of generations are valid
+all_valid : (graphs : List Graph) → AllByRecursion IsGeneration graphs → AllByRecursion IsValid graphs
+all_valid [] h = tt
+all_valid (g ∷ graphs) h = (h.0.valid, all_valid graphs h.1)
 
 module _ (input : Input) (replayed : Replayed) (is_input : IsInput input) (traced : input.traced ≡ length input.lines.now)
     (are : AreReplayed (task_of vgd_visit input) input.traced replayed) where
@@ -78,13 +90,26 @@ module _ (input : Input) (replayed : Replayed) (is_input : IsInput input) (trace
       ∙ are.visits
       ∙ ap (map (λ (j : Journey). j.course.visits)) (take_all input.traced are.js (let m = many in omega (arith, m, traced, long)))
 
-  pub trips_are : AreTrips (gone_of vgd_visit input are.js) input.lines.now replayed.trips
-  trips_are = record {
+  -- a packet that is taken through the visits of its journey comes out as that of the journey
+  comes_out : IsPlan input.plan.now → JourneysAreShown → (number : ℕ) (bytes : List ℕ) (j : Journey)
+      → option_map (λ (packet : Captured). packet.bytes) (slice_get input.capture.now.packets number) ≡ Some bytes → slice_get are.js number ≡ Some j
+      → ComesOut (gone_of vgd_visit input are.js) number bytes j
+  comes_out plan law number bytes j at is short =
+      let made : journey_at task number ≡ Some j = journey_of_all task are.js are.taken.are_journeys number j is in
+      let packet = then_some (λ (bs : List ℕ). option_and_then (journey_under task number bs) (slice_get task.choices number)) (slice_get task.packets number) j made in
+      let choice = then_some (journey_under task number packet.0) (slice_get task.choices number) j packet.2 in
+      let same : packet.0 ≡ bytes = same_Some packet.0 bytes (sym packet.1 ∙ slice_get-map (λ (p : Captured). p.bytes) input.capture.now.packets number ∙ at) in
+      law vgd_visit task.graphs task.workers number bytes choice.0 j (all_valid task.graphs plan.generations) short
+      (subst (λ (bs : List ℕ). journey_under task number bs choice.0 ≡ Some j) same choice.2)
+
+  pub trips_are : IsPlan input.plan.now → JourneysAreShown → AreTrips (gone_of vgd_visit input are.js) input.lines.now replayed.trips
+  trips_are plan law = record {
     told_is = are.trips;
     visits = all_visits;
     accepted = accepted;
     many = many;
     under = all_below (length task.graphs) task.first are.js are.taken.generations;
+    out = comes_out plan law;
   }
 
   pub under : AreUnder (length input.plan.now.graphs) replayed.trips

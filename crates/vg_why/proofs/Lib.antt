@@ -5,3 +5,5 @@ pub mod FoundLemmas
 pub mod RunLemmas
 pub mod ExpectedLemmas
 pub mod AskLemmas
+pub mod MarkLemmas
+pub mod RouteLemmas

@@ -11,7 +11,9 @@ use Rattle.vg_report.specs.declared.reports.PacketLine.{PacketLine}
 use Rattle.vg_replay.specs.Replays.{Told, told}
 use Rattle.vg_replay.proofs.ReplayLemmas.{all_by_get, get_some}
 use Rattle.vg_check.proofs.ToldLemmas.{told_of, as_many, told_at}
+use Rattle.vg_model.specs.Packet.{fresh}
 use Rattle.vg_ways.specs.declared.stories.Went.{Went}
+use Rattle.vg_ways.specs.Legs.{after_legs}
 use Rattle.vg_why.specs.Journeys.{Gone, IsGone}
 use Rattle.vg_why.specs.Trips.{AreTrips, AreLegsUnder, AreUnder}
 
@@ -46,15 +48,19 @@ gone_is gone {lines = lines} {trips = trips} number went are seen bytes =
     let trip_at : AreAt trips gone.js number seen.trip j.0 = record { one = seen.is_trip; other = j.1 } in
     let line_at : AreAt lines gone.js number seen.line j.0 = record { one = seen.is_line; other = j.1 } in
     let same : told seen.trip ≡ told_of j.0 = told_at trips gone.js are.told_is number seen.trip j.0 seen.is_trip j.1 in
+    let legs : went.legs.now ≡ j.0.course.legs = seen.legs ∙ ap (λ (t : Told). t.legs) same in
+    let visits : went.visits.now ≡ j.0.course.visits =
+    seen.visits ∙ same_at (λ (trip : Course). trip.visits) (λ (j : Journey). j.course.visits) trip_at are.visits in
     record {
       number_is = seen.number_is;
       bytes = bytes;
       j = j.0;
       is_journey = j.1;
-      legs = seen.legs ∙ ap (λ (t : Told). t.legs) same;
-      visits = seen.visits ∙ same_at (λ (trip : Course). trip.visits) (λ (j : Journey). j.course.visits) trip_at are.visits;
+      legs = legs;
+      visits = visits;
       end = seen.end ∙ ap (λ (t : Told). end_of t.outcome) same;
       accepted = seen.accepted ∙ same_at (λ (line : PacketLine). line.congested) (λ (j : Journey). j.accepted) line_at are.accepted;
+      out = λ short. (λ i. after_legs gone.visit gone.plan.graphs (legs i) (visits i) (fresh number went.bytes.now)) ∙ are.out number went.bytes.now j.0 bytes j.1 short;
     }
 
 -- the legs of a packet are under generations that there are

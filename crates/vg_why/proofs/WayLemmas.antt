@@ -1,5 +1,5 @@
 -- For `ways`: the ways of packets, one more at a time.
-use Rattle.std.proofs.Common.{◌≡◌, ℕ, ◌+◌, Bool, true, false, List, [], ◌∷◌, ◌++◌, length, take, refl, sym, ap, subst, ◌∙◌, add-one, length-append}
+use Rattle.std.proofs.Common.{◌≡◌, ℕ, ◌+◌, Bool, List, [], ◌∷◌, ◌++◌, length, take, refl, sym, ap, subst, ◌∙◌, add-one, length-append}
 use Rattle.std.specs.Prelude.{Option, Some, None, if◌then◌else◌}
 use Rattle.std.specs.List.{cons_option}
 use Rattle.std.proofs.lemmas.List.{take_more}
@@ -9,14 +9,16 @@ use Rattle.vg_model.specs.Leg.{Outcome, Sent, Dropped, Handed}
 use Rattle.vg_model.specs.Journey.{Journey, end_of, sent, sent_of, sent_as}
 use Rattle.vg_model.specs.Visit.{Visit}
 use Rattle.vg_replay.specs.declared.inputs.Input.{Input}
+use Rattle.vg_story.specs.declared.pieces.Piece.{Piece}
 use Rattle.vg_ways.specs.declared.stories.Went.{Went}
 use Rattle.vg_ways.specs.declared.telling.Place.{Place}
+use Rattle.vg_ways.specs.Stories.{IsStory}
 use Rattle.vg_ways.specs.Ways.{way_text}
 use Rattle.vg_why.specs.Asked.{Asked, is_asked}
 use Rattle.vg_why.specs.Filters.{meets}
 use Rattle.vg_why.specs.Journeys.{Gone, IsGone, record_of, place_of}
-use Rattle.vg_why.specs.Printed.{AreWays, IsWayWhere}
-use Rattle.vg_why.specs.Sent.{is_sent_at, IsWayBy, IsWayAt}
+use Rattle.vg_why.specs.Printed.{AreWays, IsWay, IsWayWhere}
+use Rattle.vg_why.specs.Sent.{is_sent_at}
 use Rattle.vg_why.specs.Trips.{gone_of}
 
 -- ---- records
@@ -65,27 +67,24 @@ pub record IsPlaced (gone : Gone) (number : ℕ) (went : Went) (place : Place) :
   pub place_is : place ≡ place_of gone number
 
 -- the way of a packet is that of its journey
-pub way_where : {visit : Visit} (input : Input) {js : List Journey} (names : Graph) (asked : Asked) {number : ℕ} {place : Place} {went : Went} (way : List ℕ)
-    → IsPlaced (gone_of visit input js) number went place → IsWayAt visit input names asked place went way
-    → IsWayWhere (gone_of visit input js) names asked number (is_asked asked number) way
-way_where {visit = visit} input {js = js} names asked {number = number} {place = place} {went = went} way placed h =
-    by_test (is_asked asked number) (subst (λ n. IsWayBy visit input names asked place went (is_asked asked n) way) placed.is.number_is h)
-  where
-    by_test : (b : Bool) → IsWayBy visit input names asked place went b way → IsWayWhere (gone_of visit input js) names asked number b way
-    by_test true w = (
-      went,
-      w.0,
-      record { is_gone = placed.is; story = w.1 },
-      w.2 ∙ ap (λ (p : Place). if meets names asked went.end w.0 then way_text input.plan.now.script names p went w.0 else []) placed.place_is,
-    )
-    by_test false w = w
+pub way_is : {visit : Visit} (input : Input) {js : List Journey} (names : Graph) (asked : Asked) {number : ℕ} {place : Place} {went : Went} (told : List Piece)
+    → IsPlaced (gone_of visit input js) number went place → IsStory visit input.plan.now input.workers went told
+    → IsWay (gone_of visit input js) names asked number (if meets names asked went.end told then way_text input.plan.now.script names place went told else [])
+way_is input names asked {went = went} told placed story = (
+  went,
+  told,
+  record { is_gone = placed.is; story = story },
+  ap (λ (p : Place). if meets names asked went.end told then way_text input.plan.now.script names p went told else []) placed.place_is,
+)
 
--- the ways of the first so many packets, and that of the next
-pub record IsOneMore (gone : Gone) (names : Graph) (asked : Asked) (number : ℕ) (before way : List ℕ) : Type 0 where
-  pub ways : AreWays gone names asked number before
-  pub next : IsWayWhere gone names asked number (is_asked asked number) way
+-- behind what is printed stands the way of the next packet
+pub record IsNext (gone : Gone) (names : Graph) (asked : Asked) (number : ℕ) (before after : List ℕ) : Type 0 where
+  pub way : List ℕ
+  pub is_way : IsWayWhere gone names asked number (is_asked asked number) way
+  pub after_is : after ≡ before ++ way
 
-pub way_more : {gone : Gone} {names : Graph} {asked : Asked} {number : ℕ} {before way : List ℕ} → IsOneMore gone names asked number before way
-    → AreWays gone names asked (number + 1) (before ++ way)
-way_more {gone = gone} {names = names} {asked = asked} {number = number} {before = before} {way = way} one =
-    subst (λ n. AreWays gone names asked n (before ++ way)) (sym (add-one number)) (before, way, one.ways, (one.next, refl))
+-- the ways of the packets so far, with that of the next
+pub ways_more : {gone : Gone} {names : Graph} {asked : Asked} {number : ℕ} {before after : List ℕ} → AreWays gone names asked number before
+    → IsNext gone names asked number before after → AreWays gone names asked (number + 1) after
+ways_more {gone = gone} {names = names} {asked = asked} {number = number} {before = before} {after = after} ways next =
+    subst (λ n. AreWays gone names asked n after) (sym (add-one number)) (before, next.way, ways, (next.is_way, next.after_is))

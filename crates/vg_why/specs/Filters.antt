@@ -6,13 +6,15 @@ use Rattle.vg_model.specs.declared.fates.End.TheVariants as ends
 use Rattle.vg_model.specs.declared.kinds.DropError.{DropError}
 use Rattle.vg_model.specs.Errors.{error_number}
 use Rattle.vg_model.specs.Graph.{Graph}
+use Rattle.vg_model.specs.Route.{same_prefix, same_prefix6}
 use Rattle.vg_story.specs.declared.pieces.Piece.{Piece}
 use Rattle.vg_story.specs.declared.pieces.Piece.TheVariants as pieces
 use Rattle.vg_story.specs.declared.pieces.Value.{Value}
 use Rattle.vg_story.specs.declared.pieces.Value.TheVariants as values
 use Rattle.vg_story.specs.declared.pieces.Word.{Word}
 use Rattle.vg_story.specs.declared.pieces.Word.TheVariants as words
-use Rattle.vg_story.specs.Text.{value_text}
+use Rattle.vg_why.specs.declared.routes.Route.{Route}
+use Rattle.vg_why.specs.declared.routes.Route.TheVariants as routes
 use Rattle.vg_why.specs.Asked.{Filter, Asked, Packets, All, Counts}
 
 -- the packet was dropped with this error
@@ -39,14 +41,20 @@ abbrev pub is_via : Graph → List ℕ → Piece → Bool
 is_via g name (pieces.Because fact) = names_neighbor g name fact.word fact.value
 is_via g name piece = false
 
--- the fact is the route of this prefix, as it is printed
-abbrev pub names_route : Graph → List ℕ → Word → Value → Bool
-names_route g prefix words.Route value = bytes_eq (value_text g value) prefix
-names_route g prefix word value = false
+-- the value is the prefix of a route
+abbrev pub is_prefix : Route → Value → Bool
+is_prefix (routes.Ip4 prefix) (values.Prefix other) = same_prefix other prefix
+is_prefix (routes.Ip6 prefix) (values.Prefix6 other) = same_prefix6 other prefix
+is_prefix route value = false
 
-abbrev pub is_route : Graph → List ℕ → Piece → Bool
-is_route g prefix (pieces.Because fact) = names_route g prefix fact.word fact.value
-is_route g prefix piece = false
+-- the fact names the route
+abbrev pub names_route : Route → Word → Value → Bool
+names_route route words.Route value = is_prefix route value
+names_route route word value = false
+
+abbrev pub is_route : Route → Piece → Bool
+is_route route (pieces.Because fact) = names_route route fact.word fact.value
+is_route route piece = false
 
 -- a condition that is there holds
 abbrev pub where_given : {X : Type 0} → (X → Bool) → Option X → Bool
@@ -58,7 +66,7 @@ abbrev pub passes : Graph → Filter → End → List Piece → Bool
 passes g f end told =
     where_given (λ error. ends_with error end) f.drop
     && (where_given (λ name. list_any (is_visit g name) told) f.node
-    && (where_given (λ name. list_any (is_via g name) told) f.via && where_given (λ prefix. list_any (is_route g prefix) told) f.route))
+    && (where_given (λ name. list_any (is_via g name) told) f.via && where_given (λ route. list_any (is_route route) told) f.route))
 
 -- the same of what is asked for: packets of numbers need meet nothing
 abbrev pub meets : Graph → Asked → End → List Piece → Bool

@@ -1,6 +1,7 @@
 -- The journeys of packets, and what is shown of them.
-use Rattle.std.specs.Prelude.{◌≡◌, ℕ, zero, suc, List, [], ◌++◌, length, take, slice_get, Some, option_map}
-use Rattle.vg_model.specs.Journey.{Journey, end_of, sent}
+use Rattle.std.specs.Prelude.{◌≡◌, ◌≤◌, ℕ, zero, suc, List, [], ◌++◌, length, take, slice_get, Some, option_map}
+use Rattle.vg_model.specs.Journey.{Journey, end_of, sent, longest_packet}
+use Rattle.vg_model.specs.Packet.{fresh}
 use Rattle.vg_model.specs.Visit.{Visit}
 use Rattle.vg_capture.specs.declared.captures.Capture.{Capture}
 use Rattle.vg_capture.specs.declared.captures.Captured.{Captured}
@@ -11,6 +12,7 @@ use Rattle.vg_ways.specs.declared.entries.Entry.{Entry}
 use Rattle.vg_ways.specs.declared.stories.Went.{Went}
 use Rattle.vg_ways.specs.declared.telling.Place.{Place}
 use Rattle.vg_ways.specs.Entries.{entries_of}
+use Rattle.vg_ways.specs.Legs.{after_legs}
 use Rattle.vg_ways.specs.Stories.{IsStory}
 
 -- packets, and the journeys that they went on
@@ -21,7 +23,7 @@ pub record Gone : Type 0 where
   pub workers : ℕ
   pub js : List Journey
 
--- a packet went as its journey says
+-- a packet went as its journey says: taken through these visits, leg after leg, it comes out as that of the journey
 pub record IsGone (gone : Gone) (number : ℕ) (went : Went) : Type 0 where
   pub number_is : went.number ≡ number
   pub bytes : option_map (λ (packet : Captured). packet.bytes) (slice_get gone.capture.packets number) ≡ Some went.bytes.now
@@ -31,6 +33,8 @@ pub record IsGone (gone : Gone) (number : ℕ) (went : Went) : Type 0 where
   pub visits : went.visits.now ≡ j.course.visits
   pub end : went.end ≡ end_of j.course.outcome
   pub accepted : went.accepted ≡ j.accepted
+  pub out : length went.bytes.now ≤ longest_packet
+      → after_legs gone.visit gone.plan.graphs went.legs.now went.visits.now (fresh number went.bytes.now) ≡ j.course.packet
 
 -- these pieces show the journey of a packet: of its visits, leg after leg, each leg's under its generation
 pub record IsTold (gone : Gone) (number : ℕ) (went : Went) (told : List Piece) : Type 0 where

@@ -1,3 +1,4 @@
+pub mod Routes
 pub mod Asked
 pub mod Filters
 pub mod Journeys

@@ -3,12 +3,13 @@ use Rattle.std.specs.Prelude.{◌≡◌, ℕ, zero, suc, Bool, true, false, List
 use Rattle.vg_model.specs.declared.kinds.DropError.{DropError}
 use Rattle.vg_model.specs.Count.{error_count, interface_count}
 use Rattle.vg_model.specs.Graph.{Graph, with_routes}
+use Rattle.vg_model.specs.Journey.{sent}
 use Rattle.vg_story.specs.declared.pieces.Piece.{Piece}
 use Rattle.vg_ways.specs.declared.entries.Entry.{Entry}
 use Rattle.vg_ways.specs.declared.stories.Went.{Went}
 use Rattle.vg_ways.specs.Counts.{counts_text}
-use Rattle.vg_ways.specs.Entries.{is_began, is_tx, is_dropped}
-use Rattle.vg_ways.specs.Logs.{under, total}
+use Rattle.vg_ways.specs.Entries.{is_began, is_left_any, is_tx, is_dropped}
+use Rattle.vg_ways.specs.Logs.{under, within, all_of, total}
 use Rattle.vg_ways.specs.Ways.{way_text}
 use Rattle.vg_why.specs.Asked.{Asked, Packets, All, Counts, is_asked}
 use Rattle.vg_why.specs.Filters.{meets}
@@ -32,13 +33,17 @@ AreWays gone names asked (suc number) text =
     (before : List ℕ) × (way : List ℕ) × AreWays gone names asked number before
     × (IsWayWhere gone names asked number (is_asked asked number) way × (text ≡ before ++ way))
 
--- the table of counts of all packets; the counts of its generations add up: those of packets to how many there are, those of interfaces and
--- of drops to those of the journeys, which a report has
+-- the table of counts of all packets; the counts of its generations add up: those of each line to that of all together; those of packets to how
+-- many there are; those that left by neighbors or by none to what was transmitted; those of interfaces and of drops to those of the journeys,
+-- which a report has
 pub record AreCounts (gone : Gone) (names : Graph) (text : List ℕ) : Type 0 where
   pub entries : List (ℕ × Entry)
   pub are : AreEntries gone (length gone.js) entries
   pub is_text : text ≡ counts_text gone.plan names entries
+  pub all : (p : Entry → Bool)
+      → count_by p (all_of (within (length gone.plan.graphs) entries)) ≡ total (length gone.plan.graphs) (λ g. count_by p (under g entries))
   pub packets : total (length gone.plan.graphs) (λ g. count_by is_began (under g entries)) ≡ length gone.js
+  pub left : total (length gone.plan.graphs) (λ g. count_by is_left_any (under g entries)) ≡ length (sent gone.js)
   pub sends : (interface : ℕ) → total (length gone.plan.graphs) (λ g. count_by (is_tx interface) (under g entries)) ≡ interface_count interface gone.js
   pub drops : (node : ℕ) (error : DropError)
       → total (length gone.plan.graphs) (λ g. count_by (is_dropped node error) (under g entries)) ≡ error_count node error gone.js

@@ -1,13 +1,14 @@
 //! What the words of the command line ask for.
-ghost use Rattle.std.specs.Prelude.{◌≡◌, ◌≤◌, ◌==◌, bytes_eq, nat_lt, option_map, IfOk, IfSome};
-ghost use Rattle.std.specs.List.{list_any, list_all};
+ghost use Rattle.std.specs.Prelude.{◌≡◌, ◌≤◌, ◌<◌, ◌&&◌, ◌==◌, ℕ, length, false, true, bytes_eq, nat_le, nat_lt, slice_index_or, slice_set, option_map, IfOk, IfSome};
+ghost use Rattle.std.specs.List.{list_all};
 ghost use Rattle.vg_model.specs.Errors.{error_word};
 ghost use Rattle.vg_words.specs.Command.{is_decimal as is_decimal_word, is_plain as is_plain_text, number_of, texts};
 ghost use Rattle.vg_why.specs.Asked as specs;
 
 use crate::filters::Filter;
+use crate::routes::route_of;
 use std::alloc::{AllocError, Global};
-use vg_model::DropError;
+use vg_model::{DropError, Name};
 
 /// What is asked for.
 #[derive(Drop)]
@@ -33,7 +34,7 @@ pub struct Ask<'a> {
 const LAST_PACKET: u64 = 65_535;
 
 // Whether the word may be a name: it isn't empty, and begins with no `-`.
-fn is_plain(word: &str) -> bool
+pub(crate) fn is_plain(word: &str) -> bool
     ensures { result ≡ is_plain_text word.now }
 {
     match word.as_bytes() {
@@ -67,7 +68,7 @@ fn number_in(word: &str) -> Option<u64>
 }
 
 // The number of a packet that a word says.
-fn packet_number(word: &str) -> Option<u32>
+pub(crate) fn packet_number(word: &str) -> Option<u32>
     ensures { result ≡ specs.packet_number word.now }
 {
     match number_in(word) {
@@ -84,7 +85,7 @@ fn says(word: &[u8], error: DropError) -> bool
 }
 
 // The error that a word says.
-fn error_named(word: &[u8]) -> Option<DropError>
+pub(crate) fn error_named(word: &[u8]) -> Option<DropError>
     ensures { result ≡ specs.error_named word.now }
 {
     DropError::ALL
@@ -93,11 +94,14 @@ fn error_named(word: &[u8]) -> Option<DropError>
         .copied()
 }
 
-// A name, where a word may be one.
-fn name_of<'a>(word: &'a str) -> Option<&'a str>
+// A name that a script may give, where a word is one.
+pub(crate) fn name_of<'a>(word: &'a str) -> Option<&'a str>
     ensures { option_map (λ name. name.now) result ≡ specs.name_of word.entry.now }
 {
-    if is_plain(word) { Some(word) } else { None }
+    match Name::of(word.as_bytes()) {
+        Some(_) => Some(word),
+        None => None,
+    }
 }
 
 // The three files, where there are these names and no others.
@@ -118,9 +122,9 @@ fn files<'a>(asked: Asked<'a>, names: &[&'a str]) -> Option<Ask<'a>>
     })
 }
 
-// The filter with one more condition: a word, and its value.
-fn with_condition<'a>(filter: Filter<'a>, word: &str, value: &'a str) -> Option<Filter<'a>>
-    ensures { option_map specs.filter_shown result ≡ specs.with_condition (specs.filter_shown filter.entry) word.now value.entry.now }
+// The filter with one more condition, which isn't on routes: a word, and its value.
+fn with_other<'a>(filter: Filter<'a>, word: &str, value: &'a str) -> Option<Filter<'a>>
+    ensures { option_map specs.filter_shown result ≡ specs.with_other (specs.filter_shown filter.entry) word.now value.entry.now }
 {
     if word == "--drop" {
         let error = error_named(value.as_bytes())?;
@@ -133,13 +137,6 @@ fn with_condition<'a>(filter: Filter<'a>, word: &str, value: &'a str) -> Option<
         let name = name_of(value)?;
         return Some(Filter {
             via: Some(name),
-            ..filter
-        });
-    }
-    if word == "--route" {
-        let name = name_of(value)?;
-        return Some(Filter {
-            route: Some(name),
             ..filter
         });
     }
@@ -161,6 +158,38 @@ fn with_condition<'a>(filter: Filter<'a>, word: &str, value: &'a str) -> Option<
     None
 }
 
+// The filter with the condition on routes.
+fn with_route<'a>(
+    alloc: Global,
+    filter: Filter<'a>,
+    value: &str,
+) -> Result<Option<Filter<'a>>, AllocError>
+    ensures { IfOk result (λ with. option_map specs.filter_shown with ≡ specs.with_route (specs.filter_shown filter.entry) value.now) }
+{
+    match route_of(alloc, value)? {
+        Some(route) => Ok(Some(Filter {
+            route: Some(route),
+            ..filter
+        })),
+        None => Ok(None),
+    }
+}
+
+// The filter with one more condition.
+fn with_condition<'a>(
+    alloc: Global,
+    filter: Filter<'a>,
+    word: &str,
+    value: &'a str,
+) -> Result<Option<Filter<'a>>, AllocError>
+    ensures { IfOk result (λ with. option_map specs.filter_shown with ≡ specs.with_condition (specs.filter_shown filter.entry) word.now value.entry.now) }
+{
+    if word == "--route" {
+        return with_route(alloc, filter, value);
+    }
+    Ok(with_other(filter, word, value))
+}
+
 // A filter that all packets pass.
 fn no_filter<'a>() -> Filter<'a>
     ensures { specs.filter_shown result ≡ specs.no_filter }
@@ -176,15 +205,19 @@ fn no_filter<'a>() -> Filter<'a>
 }
 
 // The words behind `--all`, with these conditions so far: conditions, each a word and its value, and then the files.
-fn all_from<'a>(filter: Filter<'a>, words: &[&'a str]) -> Option<Ask<'a>>
-    ensures { option_map specs.ask_shown result ≡ specs.all_from (specs.filter_shown filter.entry) (texts words.now) }
+fn all_from<'a>(
+    alloc: Global,
+    filter: Filter<'a>,
+    words: &[&'a str],
+) -> Result<Option<Ask<'a>>, AllocError>
+    ensures { IfOk result (λ ask. option_map specs.ask_shown ask ≡ specs.all_from (specs.filter_shown filter.entry) (texts words.now)) }
 {
     if words.len() <= 3 {
-        return files(Asked::All(filter), words);
+        return Ok(files(Asked::All(filter), words));
     }
-    match with_condition(filter, words[0], words[1]) {
-        Some(filter) => all_from(filter, &words[2..]),
-        None => None,
+    match with_condition(alloc, filter, words[0], words[1])? {
+        Some(filter) => all_from(alloc, filter, &words[2..]),
+        None => Ok(None),
     }
 }
 
@@ -231,16 +264,48 @@ pub fn asks_for<'a>(alloc: Global, words: &[&'a str]) -> Result<Option<Ask<'a>>,
         return Ok(files(Asked::Counts, others));
     }
     if *first == "--all" {
-        return Ok(all_from(no_filter(), others));
+        return all_from(alloc, no_filter(), others);
     }
     packets_asked(alloc, words)
 }
 
-// Whether a number is among these.
-fn has_number(numbers: &[u32], number: u32) -> bool
-    ensures { result ≡ list_any (λ n. n == number) numbers.now }
+// Marks the packet of a number, where there is one.
+fn mark(marks: &mut [bool], number: u32)
+    ensures { marks.new ≡ slice_set marks.old number true }
 {
-    numbers.iter().any(|other| *other == number)
+    let place = number as usize;
+    if place < marks.len() {
+        marks[place] = true;
+    }
+}
+
+// Of each of so many packets whether its number is among these.
+fn marked(alloc: Global, numbers: &[u32], count: usize) -> Result<Vec<bool>, AllocError>
+    ensures { IfOk result (λ marks. specs.AreMarks (specs.Packets numbers.now) count marks.items) }
+{
+    let mut marks = vec![in alloc; false; count]?;
+    for number in numbers {
+        mark(marks.as_mut_slice(), *number);
+    }
+    Ok(marks)
+}
+
+// Whether a number is in the range of a filter.
+fn is_between(filter: &Filter<'_>, number: usize) -> bool
+    ensures { result ≡ (nat_le filter.now.from number && nat_le number filter.now.to) }
+{
+    filter.from as usize <= number && number <= filter.to as usize
+}
+
+// Of each of so many packets whether its number is in the range of a filter.
+fn marked_between(alloc: Global, filter: &Filter<'_>, count: usize) -> Result<Vec<bool>, AllocError>
+    ensures { IfOk result (λ marks. specs.AreMarks (specs.All (specs.filter_shown filter.now)) count marks.items) }
+{
+    let mut marks = Vec::new(alloc);
+    for number in 0..count {
+        marks.push(is_between(filter, number))?;
+    }
+    Ok(marks)
 }
 
 // Whether these numbers are below so many.
@@ -251,14 +316,14 @@ fn all_below(numbers: &[u32], count: u32) -> bool
 }
 
 impl Asked<'_> {
-    // Whether a packet of this number is asked for, whatever became of it.
-    pub(crate) fn has(&self, number: u32) -> bool
-        ensures { result ≡ specs.is_asked (specs.asked_shown self.now) number }
+    // Of each of so many packets whether it is asked for, whatever became of it.
+    pub(crate) fn marks(&self, alloc: Global, count: usize) -> Result<Vec<bool>, AllocError>
+        ensures { IfOk result (λ marks. specs.AreMarks (specs.asked_shown self.now) count marks.items) }
     {
         match self {
-            Asked::Packets(numbers) => has_number(numbers.as_slice(), number),
-            Asked::All(filter) => filter.from <= number && number <= filter.to,
-            Asked::Counts => false,
+            Asked::Packets(numbers) => marked(alloc, numbers.as_slice(), count),
+            Asked::All(filter) => marked_between(alloc, filter, count),
+            Asked::Counts => vec![in alloc; false; count],
         }
     }
 

@@ -9,7 +9,7 @@ ghost use Rattle.vg_why.specs.Journeys.{AreEntries};
 ghost use Rattle.vg_why.specs.Printed.{AreCounts};
 ghost use Rattle.vg_why.specs.Trips.{gone_of, AreTrips, AreLegsUnder, AreUnder};
 
-use crate::journeys::went_of;
+use crate::journeys::{advance_to, went_of};
 use std::alloc::Global;
 use vg_graph::Graph;
 use vg_model::Memory;
@@ -35,11 +35,9 @@ fn put_packet<K: KindSet>(
     ensures entries { OnOk result ((told : List Told) × IsStory K.meaning stages.old.plan workers went.now told
         × (entries.new.items ≡ entries.old.items ++ entries_of went.now told)) }
 {
+    advance_to(stages, went)?;
     put_story(pieces, kinds, workers, stages, went, chain)?;
     put_entries(entries, went, pieces.as_slice())?;
-    if let Some(first) = went.legs.first() {
-        stages.forget(first.generation);
-    }
     Ok(())
 }
 

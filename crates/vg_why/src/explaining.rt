@@ -1,6 +1,7 @@
 //! What is written to the standard error where nothing was printed but a refusal.
 
 use crate::asks::asks_for;
+use crate::faults::call_fault;
 use std::io;
 use std::rt::Files;
 use vg_explain::{Called, asks_for_help, explain};
@@ -13,7 +14,8 @@ const USAGE: &str = "usage:
   vgwhy --all [--drop ERROR] [--via NEIGHBOR] [--route PREFIX] [--node NAME] [--from NUMBER] [--to NUMBER] CAPTURE SCRIPT REPORT
       Prints the ways of all packets, or of those that meet each condition.
   vgwhy --counts CAPTURE SCRIPT REPORT
-      Prints for each generation of the graph, and in all, how many packets matched each route, left by each neighbor and met each drop.
+      Prints for each generation of the graph, and in all, how often each route matched, how many packets left to each neighbor and on each
+      interface, and how many each node dropped with each error.
 docs/FORMATS.md has the formats, the limits and the exit statuses.
 ";
 
@@ -34,27 +36,38 @@ pub fn explain_why<R: Files + Eprint + AllocGlobal>(
     if status == 7 {
         return eprintln!(rt; "vgwhy: the standard output could not be written to its end");
     }
-    let ask = match asks_for(rt.alloc(), words) {
-        Ok(ask) => ask,
-        Err(_) => None,
+    let ask = asks_for(rt.alloc(), words)?;
+    let fault = call_fault(rt.alloc(), words, &ask)?;
+    let fault = if asks_for_help(words) {
+        None
+    } else {
+        Some(fault.as_str())
     };
-    let fault = match &ask {
-        _ if asks_for_help(words) => None,
-        Some(_) => Some("the capture has no packet of this number"),
-        None => {
-            Some(
-                "a capture, a script and a report are wanted, and numbers of packets, or in front `--counts`, or `--all` and conditions",
-            )
-        }
-    };
+    explain_named(
+        rt,
+        fault,
+        ask.as_ref().map(|ask| ask.capture),
+        ask.as_ref().map(|ask| ask.script),
+        printed,
+    )
+}
+
+// The same of a refused call, with what is wrong with its words, and the names of its capture and its script, where the words name them.
+fn explain_named<'a, R: Files + Eprint + AllocGlobal>(
+    rt: &R,
+    fault: Option<&'a str>,
+    capture: Option<&'a str>,
+    script: Option<&'a str>,
+    printed: &[u8],
+) -> io::Result<()> {
     explain(
         rt,
         &Called {
             program: "vgwhy",
             usage: USAGE,
             fault,
-            capture: ask.as_ref().map(|ask| ask.capture),
-            script: ask.as_ref().map(|ask| ask.script),
+            capture,
+            script,
             save_error: None,
         },
         printed,

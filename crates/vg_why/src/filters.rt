@@ -1,25 +1,24 @@
 //! Which packets are printed.
-ghost use Rattle.std.specs.Prelude.{◌≡◌, bytes_eq, IfOk};
+ghost use Rattle.std.specs.Prelude.{◌≡◌};
 ghost use Rattle.std.specs.List.{list_any};
-ghost use Rattle.vg_story.specs.Text.{value_text};
 ghost use Rattle.vg_why.specs.Asked.{filter_shown, asked_shown};
 ghost use Rattle.vg_why.specs.Filters as specs;
 
 use crate::asks::Asked;
-use std::alloc::AllocError;
+use crate::routes::Route;
 use vg_graph::Graph;
 use vg_model::{DropError, End};
-use vg_story::{Fact, Piece, Value, Word, put_value};
+use vg_story::{Fact, Piece, Value, Word};
 
 /// Which packets are printed: all that meet each condition that is there.
 #[derive(Clone, Copy, Debug)]
 pub struct Filter<'a> {
     /// Those that were dropped with this error.
     pub drop: Option<DropError>,
-    /// Those for which the neighbor of this name was chosen.
+    /// Those for which a look-up chose the neighbor of this name, or a rewrite was.
     pub via: Option<&'a str>,
-    /// Those that matched the route of this prefix, as it is printed.
-    pub route: Option<&'a str>,
+    /// Those for which a look-up matched this route.
+    pub route: Option<Route>,
     /// Those that visited the node of this name.
     pub node: Option<&'a str>,
     /// Those from this number on.
@@ -72,55 +71,24 @@ fn is_via(graph: &Graph, name: &str, piece: Piece) -> bool
     }
 }
 
-// Whether a value is printed so.
-fn is_printed(
-    scratch: &mut Vec<u8>,
-    graph: &Graph,
-    text: &str,
-    value: Value,
-) -> Result<bool, AllocError>
-    ensures { IfOk result (λ is. is ≡ bytes_eq (value_text graph.now value) text.now) }
+// Whether a fact names this route.
+fn names_route(route: Route, fact: Fact) -> bool
+    ensures { result ≡ specs.names_route route fact.word fact.value }
 {
-    scratch.clear();
-    put_value(scratch, graph, value)?;
-    Ok(scratch.as_slice() == text.as_bytes())
+    match fact.word {
+        Word::Route => route.is_of(fact.value),
+        _ => false,
+    }
 }
 
-// Whether a piece is the match of the route of this prefix, as it is printed.
-fn is_route(
-    scratch: &mut Vec<u8>,
-    graph: &Graph,
-    prefix: &str,
-    piece: Piece,
-) -> Result<bool, AllocError>
-    ensures { IfOk result (λ is. is ≡ specs.is_route graph.now prefix.now piece) }
+// Whether a piece names this route.
+fn is_route(route: Route, piece: Piece) -> bool
+    ensures { result ≡ specs.is_route route piece }
 {
     match piece {
-        Piece::Because(
-            Fact {
-                word: Word::Route,
-                value,
-            },
-        ) => is_printed(scratch, graph, prefix, value),
-        _ => Ok(false),
+        Piece::Because(fact) => names_route(route, fact),
+        _ => false,
     }
-}
-
-// Whether one of the pieces is the match of the route of this prefix.
-fn has_route(
-    scratch: &mut Vec<u8>,
-    graph: &Graph,
-    prefix: &str,
-    pieces: &[Piece],
-) -> Result<bool, AllocError>
-    ensures { IfOk result (λ has. has ≡ list_any (specs.is_route graph.now prefix.now) pieces.now) }
-{
-    for piece in pieces {
-        if is_route(scratch, graph, prefix, *piece)? {
-            return Ok(true);
-        }
-    }
-    Ok(false)
 }
 
 // Whether a packet met the condition on its error, if there is one.
@@ -147,6 +115,13 @@ fn has_via(graph: &Graph, name: &str, pieces: &[Piece]) -> bool
     pieces.iter().any(|piece| is_via(graph, name, *piece))
 }
 
+// Whether one of the pieces names this route.
+fn has_route(route: Route, pieces: &[Piece]) -> bool
+    ensures { result ≡ list_any (specs.is_route route) pieces.now }
+{
+    pieces.iter().any(|piece| is_route(route, *piece))
+}
+
 // The same of the node that it visited.
 fn meets_node(filter: &Filter<'_>, graph: &Graph, pieces: &[Piece]) -> bool
     ensures { result ≡ specs.where_given (λ name. list_any (specs.is_visit graph.now name) pieces.now) (filter_shown filter.now).node }
@@ -168,52 +143,32 @@ fn meets_via(filter: &Filter<'_>, graph: &Graph, pieces: &[Piece]) -> bool
 }
 
 // The same of its route.
-fn meets_route(
-    scratch: &mut Vec<u8>,
-    filter: &Filter<'_>,
-    graph: &Graph,
-    pieces: &[Piece],
-) -> Result<bool, AllocError>
-    ensures { IfOk result (λ meets. meets ≡ specs.where_given (λ prefix. list_any (specs.is_route graph.now prefix) pieces.now) (filter_shown filter.now).route) }
+fn meets_route(filter: &Filter<'_>, pieces: &[Piece]) -> bool
+    ensures { result ≡ specs.where_given (λ route. list_any (specs.is_route route) pieces.now) filter.now.route }
 {
     match filter.route {
-        Some(prefix) => has_route(scratch, graph, prefix, pieces),
-        None => Ok(true),
+        Some(route) => has_route(route, pieces),
+        None => true,
     }
 }
 
 // Whether a packet that ended so, whose way these pieces show, passes the filter, but for its number.
-fn passes(
-    scratch: &mut Vec<u8>,
-    filter: &Filter<'_>,
-    graph: &Graph,
-    end: End,
-    pieces: &[Piece],
-) -> Result<bool, AllocError>
-    ensures { IfOk result (λ passes. passes ≡ specs.passes graph.now (filter_shown filter.now) end pieces.now) }
+fn passes(filter: &Filter<'_>, graph: &Graph, end: End, pieces: &[Piece]) -> bool
+    ensures { result ≡ specs.passes graph.now (filter_shown filter.now) end pieces.now }
 {
-    if !meets_drop(filter, end)
-        || !meets_node(filter, graph, pieces)
-        || !meets_via(filter, graph, pieces)
-    {
-        return Ok(false);
-    }
-    meets_route(scratch, filter, graph, pieces)
+    meets_drop(filter, end)
+        && meets_node(filter, graph, pieces)
+        && meets_via(filter, graph, pieces)
+        && meets_route(filter, pieces)
 }
 
 /// Whether a packet that ended so, whose way these pieces show, meets what is asked for, but for its number.
-pub(crate) fn meets(
-    scratch: &mut Vec<u8>,
-    asked: &Asked<'_>,
-    graph: &Graph,
-    end: End,
-    pieces: &[Piece],
-) -> Result<bool, AllocError>
-    ensures { IfOk result (λ meets. meets ≡ specs.meets graph.now (asked_shown asked.now) end pieces.now) }
+pub(crate) fn meets(asked: &Asked<'_>, graph: &Graph, end: End, pieces: &[Piece]) -> bool
+    ensures { result ≡ specs.meets graph.now (asked_shown asked.now) end pieces.now }
 {
     match asked {
-        Asked::Packets(_) => Ok(true),
-        Asked::All(filter) => passes(scratch, filter, graph, end, pieces),
-        Asked::Counts => Ok(false),
+        Asked::Packets(_) => true,
+        Asked::All(filter) => passes(filter, graph, end, pieces),
+        Asked::Counts => false,
     }
 }

@@ -23,6 +23,7 @@ use vg_model::{Bytes, Memory};
 use vg_plan::Plan;
 use vg_replay::{Input, ReplayError, Replayed, replay};
 use vg_report::Report;
+use vg_ways::laws::journeys_are_shown;
 
 // Whether a report's head fits a plan and a capture.
 fn is_head(plan: &Plan, capture: &Capture, report: &Report) -> bool
@@ -62,6 +63,8 @@ fn text_of<'a>(
     requires replayed { AreReplayed (task_of vgd_visit input.now) input.now.traced replayed.now }
     ensures { IfOk result (λ text. IsTextOf input.now (asked_shown asked.now) text.items) }
 {
+    let _generations = input.plan.generations();
+    journeys_are_shown();
     let names: &Graph = replayed.last.graph();
     let trips = &replayed.trips;
     match asked {

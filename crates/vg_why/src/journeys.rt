@@ -6,9 +6,9 @@ ghost use Rattle.vg_replay.specs.Legs.{outcome_of};
 ghost use Rattle.vg_why.specs.Journeys.{IsGone};
 ghost use Rattle.vg_why.specs.Trips.{gone_of, AreTrips, AreLegsUnder, AreUnder};
 
-use vg_model::{DropError, End};
+use vg_model::{DropError, End, Memory};
 use vg_replay::{Input, Outcome, Trips};
-use vg_ways::Went;
+use vg_ways::{Stages, Went};
 
 // How a packet ended: the packet of a refused push was dropped by the node that handed it over.
 fn end_of(outcome: Outcome) -> End
@@ -43,5 +43,16 @@ pub(crate) fn went_of<'a>(input: &Input<'a>, trips: &'a Trips, number: u32) -> W
         visits: trip.visits(),
         end: end_of(trip.outcome()),
         accepted: input.lines.get(place).congested,
+    }
+}
+
+/// Makes generations until that of a packet's first leg is made, and keeps none before it: no later packet meets one of them.
+pub(crate) fn advance_to(stages: &mut Stages<'_>, went: &Went<'_>) -> Result<(), Memory>
+    requires under { AreLegsUnder (length stages.old.plan.graphs) went.now.legs.now }
+    ensures plan { stages.new.plan ≡ stages.old.plan }
+{
+    match went.legs.first() {
+        Some(leg) => stages.advance_to(leg.generation),
+        None => Ok(()),
     }
 }

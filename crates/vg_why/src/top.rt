@@ -59,7 +59,7 @@ fn due_for(alloc: Global, told: Result<Bytes, Stop<'_>>) -> Option<Due>
     }
 }
 
-/// Prints what the words after the program's name ask for, over a folder and a sink, and answers the exit status; or why nothing was found.
+/// Prints what the words after the program's name ask for, or why there is none, over a folder and a sink. Answers the exit status.
 ///
 /// 0: it was printed. 1: memory ran out, and nothing was printed. 2, 3, 4, 5 and 9: a line that says why nothing is shown was printed. 7:
 /// the sink failed in the middle of what was to be printed.

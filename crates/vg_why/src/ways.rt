@@ -8,12 +8,12 @@ ghost use Rattle.vg_ways.specs.Ways.{way_text};
 ghost use Rattle.vg_why.specs.Asked.{asked_shown};
 ghost use Rattle.vg_why.specs.Filters.{meets as meets_all};
 ghost use Rattle.vg_why.specs.Printed.{AreWays};
-ghost use Rattle.vg_why.specs.Sent.{is_sent_at, IsWayAt};
+ghost use Rattle.vg_why.specs.Sent.{is_sent_at};
 ghost use Rattle.vg_why.specs.Trips.{gone_of, AreTrips, AreLegsUnder, AreUnder};
 
 use crate::asks::Asked;
 use crate::filters::meets;
-use crate::journeys::went_of;
+use crate::journeys::{advance_to, went_of};
 use std::alloc::Global;
 use vg_graph::Graph;
 use vg_model::{End, Memory};
@@ -28,7 +28,6 @@ struct Room<'a> {
     out: Vec<u8>,
     stages: Stages<'a>,
     pieces: Vec<Piece>,
-    scratch: Vec<u8>,
     chain: Chain,
 }
 
@@ -49,6 +48,7 @@ fn put_where<K: KindSet>(
         × (room.new.out.items ≡ room.old.out.items ++ (if meets_all names.now (asked_shown asked.now) went.now.end told
         then way_text room.old.stages.plan.script names.now place went.now told else []))) }
 {
+    advance_to(&mut room.stages, went)?;
     put_story(
         &mut room.pieces,
         kinds,
@@ -58,7 +58,7 @@ fn put_where<K: KindSet>(
         &mut room.chain,
     )?;
     let pieces = room.pieces.as_slice();
-    if meets(&mut room.scratch, asked, names, went.end, pieces)? {
+    if meets(asked, names, went.end, pieces) {
         put_way(&mut room.out, &room.stages, names, place, went, pieces)?;
     }
     Ok(())
@@ -72,60 +72,6 @@ fn is_sent(end: End) -> bool
         End::Tx { .. } => true,
         End::Dropped { .. } => false,
     }
-}
-
-// Forgets the generations before that of the first leg.
-fn forget(stages: &mut Stages<'_>, went: &Went<'_>)
-    ensures { stages.new.plan ≡ stages.old.plan }
-{
-    if let Some(first) = went.legs.first() {
-        stages.forget(first.generation);
-    }
-}
-
-// Appends the way of a packet, where its number is asked for.
-fn put_asked<K: KindSet>(
-    room: &mut Room<'_>,
-    kinds: &K,
-    input: &Input<'_>,
-    asked: &Asked<'_>,
-    names: &Graph,
-    place: Place,
-    went: &Went<'_>,
-) -> Result<(), Memory>
-    requires input { IsInput input.now }
-    requires plan { room.old.stages.plan ≡ input.now.plan.now }
-    requires under { AreLegsUnder (length input.now.plan.now.graphs) went.now.legs.now }
-    ensures plan { room.new.stages.plan ≡ room.old.stages.plan }
-    ensures way { OnOk result ((way : List ℕ) × (room.new.out.items ≡ room.old.out.items ++ way)
-        × IsWayAt K.meaning input.now names.now (asked_shown asked.now) place went.now way) }
-{
-    if !asked.has(went.number) {
-        return Ok(());
-    }
-    put_where(room, kinds, input.workers, asked, names, place, went)
-}
-
-// The same; generations before that of its first leg are then forgotten.
-fn put_number<K: KindSet>(
-    room: &mut Room<'_>,
-    kinds: &K,
-    input: &Input<'_>,
-    asked: &Asked<'_>,
-    names: &Graph,
-    place: Place,
-    went: &Went<'_>,
-) -> Result<(), Memory>
-    requires input { IsInput input.now }
-    requires plan { room.old.stages.plan ≡ input.now.plan.now }
-    requires under { AreLegsUnder (length input.now.plan.now.graphs) went.now.legs.now }
-    ensures plan { room.new.stages.plan ≡ room.old.stages.plan }
-    ensures way { OnOk result ((way : List ℕ) × (room.new.out.items ≡ room.old.out.items ++ way)
-        × IsWayAt K.meaning input.now names.now (asked_shown asked.now) place went.now way) }
-{
-    put_asked(room, kinds, input, asked, names, place, went)?;
-    forget(&mut room.stages, went);
-    Ok(())
 }
 
 /// The ways of the packets that are asked for, in the order of their numbers.
@@ -152,16 +98,18 @@ pub(crate) fn ways<'a, K: KindSet>(
         out: Vec::new(alloc),
         stages: Stages::new(alloc, input.plan)?,
         pieces: Vec::new(alloc),
-        scratch: Vec::new(alloc),
         chain: Chain::new(alloc)?,
     };
+    let marks = asked.marks(alloc, trips.len())?;
     let mut clock = Clock::new(input.capture);
     let mut index = 0;
     for number in 0..trips.len() {
         let went = went_of(input, trips, number as u32);
         let time = clock.time(input.capture, number);
         let place = Place { time, index };
-        put_number(&mut room, kinds, input, asked, names, place, &went)?;
+        if marks[number] {
+            put_where(&mut room, kinds, input.workers, asked, names, place, &went)?;
+        }
         if is_sent(went.end) {
             index += 1;
         }

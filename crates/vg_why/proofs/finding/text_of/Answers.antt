@@ -30,7 +30,7 @@ returns-in-Counts c =
       are_names = record { last = c.args.replayed.now.last; is_last = c.requires.replayed.last; same = c.graph-names.ensures.graph };
       is_text = h;
     }))
-    (c.counts.ensures js (trips_are c.args.input.now c.args.replayed.now c.requires.input c.requires.traced c.requires.replayed))
+    (c.counts.ensures js (trips_are c.args.input.now c.args.replayed.now c.requires.input c.requires.traced c.requires.replayed c.generations-generations.ensures.plan c.journeys_are_shown.ensures))
 
 pub ways-requires-clause-many : goal.ways-requires-clause-many
 ways-requires-clause-many c = trips_many c.args.input.now c.args.replayed.now c.requires.input c.requires.traced c.requires.replayed
@@ -43,7 +43,7 @@ returns-in-Packets c =
     let js = c.requires.replayed.js in
     let gone = gone_of vgd_visit c.args.input.now js in
     let names = c.graph-names.result.now in
-    let are = trips_are c.args.input.now c.args.replayed.now c.requires.input c.requires.traced c.requires.replayed in
+    let are = trips_are c.args.input.now c.args.replayed.now c.requires.input c.requires.traced c.requires.replayed c.generations-generations.ensures.plan c.journeys_are_shown.ensures in
     let many : length c.args.replayed.now.trips ≡ length js = as_many c.args.replayed.now.trips js are.told_is in
     IfOk-weaker c.ways.result (λ text. AreWays gone names (asked_shown c.args.asked.now) (length c.args.replayed.now.trips) text.items)
     (λ text. IsTextOf c.args.input.now (asked_shown c.args.asked.now) text.items)
@@ -69,7 +69,7 @@ returns-in-All c =
     let js = c.requires.replayed.js in
     let gone = gone_of vgd_visit c.args.input.now js in
     let names = c.graph-names.result.now in
-    let are = trips_are c.args.input.now c.args.replayed.now c.requires.input c.requires.traced c.requires.replayed in
+    let are = trips_are c.args.input.now c.args.replayed.now c.requires.input c.requires.traced c.requires.replayed c.generations-generations.ensures.plan c.journeys_are_shown.ensures in
     let many : length c.args.replayed.now.trips ≡ length js = as_many c.args.replayed.now.trips js are.told_is in
     IfOk-weaker c.ways-in-All.result (λ text. AreWays gone names (asked_shown c.args.asked.now) (length c.args.replayed.now.trips) text.items)
     (λ text. IsTextOf c.args.input.now (asked_shown c.args.asked.now) text.items)

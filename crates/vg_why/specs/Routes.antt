@@ -1,0 +1,44 @@
+-- The routes that words name.
+use Rattle.std.specs.Prelude.{ℕ, Bool, not, ◌&&◌, ◌==◌, nat_lt, List, [], ◌∷◌, ◌++◌, codes, Option, Some, None, Result, Ok, Err, if◌then◌else◌}
+use Rattle.std.specs.List.{list_all}
+use Rattle.std.specs.Option.{option_or}
+use Rattle.vg_model.specs.declared.edits.Edit.{Edit}
+use Rattle.vg_model.specs.declared.edits.Edit.TheVariants as edits
+use Rattle.vg_model.specs.declared.edits.EditLine.{EditLine}
+use Rattle.vg_script.specs.declared.errors.ScriptError.{ScriptError}
+use Rattle.vg_script.specs.declared.scripts.Script.{Script}
+use Rattle.vg_script.specs.Reading.{script_of}
+use Rattle.vg_words.specs.Command.{Text}
+use Rattle.vg_why.specs.declared.routes.Route.{Route}
+use Rattle.vg_why.specs.declared.routes.Route.TheVariants as routes
+
+-- no byte parts words, ends a line or begins a comment
+abbrev pub is_one_word : Text → Bool
+is_one_word word = list_all (λ byte. nat_lt 32 byte && not (byte == 35)) word
+
+-- a line of a script: a word, and a value behind it
+unfoldable pub line_of : List ℕ → Text → List ℕ
+line_of word value = ((word ++ 32 ∷ []) ++ value) ++ 10 ∷ []
+
+-- the route that an edit takes out
+abbrev pub taken_out : Edit → Option Route
+taken_out (edits.Unroute prefix) = Some (routes.Ip4 prefix)
+taken_out (edits.Unroute6 prefix) = Some (routes.Ip6 prefix)
+taken_out edit = None
+
+-- the same of the only edit outside blocks
+abbrev pub only_taken_out : List EditLine → Option Route
+only_taken_out (line ∷ []) = taken_out line.edit
+only_taken_out lines = None
+
+abbrev pub taken_out_by : Result Script ScriptError → Option Route
+taken_out_by (Ok script) = only_taken_out script.start
+taken_out_by (Err error) = None
+
+-- the route that a line takes out, which is a script by itself
+abbrev pub route_in : List ℕ → Text → Option Route
+route_in word value = taken_out_by (script_of (line_of word value))
+
+-- the route of a prefix, by the grammar of scripts: that which a line `unroute` or `unroute6` with this one word takes out
+abbrev pub route_of : Text → Option Route
+route_of word = if is_one_word word then option_or (route_in (codes "unroute") word) (route_in (codes "unroute6") word) else None
