@@ -1,5 +1,5 @@
--- For `number`, `pair`, `group`, `mac`, `address`, `prefix`, `prefix6`, `vlan_behind` and `name`: the classes of words, in the steps in which they are read.
-use Rattle.std.proofs.Common.{◌≡◌, ◌≢◌, ℕ, suc, ◌-◌, ◌%◌, ◌^◌, ◌<◌, ◌≤◌, Bool, true, false, cond, not, ◌&&◌, ◌||◌, ltb, leb, eqb, List, [], ◌∷◌, length, drop, get_or}
+-- For `value_of_few`, `number`, `pair`, `group`, `mac`, `address`, `prefix`, `prefix6`, `vlan_behind` and `name`: the classes of words, in the steps in which they are read.
+use Rattle.std.proofs.Common.{◌≡◌, ◌≢◌, ℕ, suc, ◌+◌, ◌*◌, ◌-◌, ◌%◌, ◌^◌, ◌<◌, ◌≤◌, Bool, true, false, cond, not, ◌&&◌, ◌||◌, ltb, leb, eqb, List, [], ◌∷◌, length, take, drop, get_or}
 use Rattle.std.proofs.Common.{refl, sym, ap, subst, ◌∙◌, arith, true≢false, ltb-true, lt-ltb, le-leb, leb-true, eq-eqb, ne_eqb, IsUtf8, rules, ◌==◌}
 use Rattle.std.proofs.Math.Dec.{T}
 use Rattle.std.proofs.Math.Facts.{leb_yes, eqb_yes}
@@ -13,9 +13,10 @@ use Rattle.std.proofs.Math.Bridge.{le_prop}
 use Rattle.std.proofs.Math.Nat.{ℕ_set}
 use Rattle.std.proofs.lemmas.Bool.Decides.{nat_tests}
 use Rattle.std.proofs.lemmas.List.{get_or_past}
+use Rattle.std.proofs.lemmas.Int.Digits.{digits_value_more}
 use Rattle.std.proofs.lemmas.List.Sums.{AllPass-from_list_all, list_all-from_AllPass}
-use Rattle.std.proofs.lemmas.Str.{IsUtf8-from_ascii}
-use Rattle.std.proofs.lemmas.Str.Parse.{IsNumeralModel, numerals_by_value, parse_digits}
+use Rattle.std.proofs.lemmas.Str.{IsUtf8-from_ascii, digit_value_digit}
+use Rattle.std.proofs.lemmas.Str.Parse.{IsNumeralModel, numerals_by_value, parse_digits, digits_value_short, digits_value-take-le}
 use Rattle.vg_model.specs.Name.{IsName, is_name, is_name_byte}
 use Rattle.vg_model.specs.declared.routes.Prefix.{Prefix}
 use Rattle.vg_model.specs.declared.routes.Prefix6.{Prefix6}
@@ -50,6 +51,19 @@ decimal_some word h = ltb-true 0 (length word) (and_parts (ltb 0 (length word)) 
 -- decimal digits, as `parse` reads them
 pub decimals : IsNumeralModel (λ ds. list_all is_ascii_digit ds ≡ true) (digits_value 10)
 decimals = numerals_by_value _ (search rules)
+
+-- the number of one more of at most nineteen digits
+pub one_digit_more : (word : List ℕ) (i : ℕ) → list_all is_ascii_digit word ≡ true → length word ≤ 19 → i < length word
+    → (digits_value 10 (take (i + 1) word) ≡ digits_value 10 (take i word) * 10 + (get_or word i 0 - 48)) × (digits_value 10 (take (i + 1) word) < 10 ^ 19)
+one_digit_more word i all few h =
+    let digit : is_ascii_digit (get_or word i 0) ≡ true = AllPass-from_list_all is_ascii_digit word all i 0 h in
+    let value : digit_value (get_or word i 0) ≡ get_or word i 0 - 48 = value_of_digit (get_or word i 0) digit in
+    let part : digits_value 10 (take (i + 1) word) ≤ digits_value 10 word = digits_value-take-le 10 word (i + 1) (omega arith) in
+    let whole : digits_value 10 word < 10 ^ 19 = digits_value_short decimals word 19 all few in
+    (digits_value_more 10 word i h ∙ ap (λ d. digits_value 10 (take i word) * 10 + d) value, omega (arith, part, whole))
+  where
+    value_of_digit : (c : ℕ) → is_ascii_digit c ≡ true → digit_value c ≡ c - 48
+    value_of_digit c h = omega (arith, digit_value_digit c (grind (arith, nat_tests, h)))
 
 -- a number that `parse` doesn't read is too large
 pub no_number : (E : Type 0) (least most : ℕ) (word : List ℕ) (e : E) → most < 2 ^ 64 → is_decimal word ≡ true → ParsesUnsigned 64 10 word (Err e)

@@ -1,7 +1,9 @@
 //! The classes of words.
-ghost use Rattle.std.specs.Prelude.{◌≡◌, ◌+◌, ◌++◌, ◌<◌, ◌≤◌, ◌==◌, length, take, drop, unwrap_or, bytes_eq, decimal, Some, None, IfSome, MatchResult, ok_or, find, ◌-◌, ◌%◌, ◌^◌};
+ghost use Rattle.std.specs.Prelude.{◌≡◌, ◌+◌, ◌++◌, ◌<◌, ◌≤◌, ◌==◌, ◌&&◌, if◌then◌else◌, true, nat_le, length, take, drop, unwrap_or, bytes_eq, decimal, Some, None, IfSome, MatchResult, ok_or, find, ◌-◌, ◌%◌, ◌^◌};
 ghost use Rattle.std.specs.Option.{ForSome};
-ghost use Rattle.std.specs.List.{before_first, after_first};
+ghost use Rattle.std.specs.Char.{is_ascii_digit};
+ghost use Rattle.std.specs.List.{before_first, after_first, list_all};
+ghost use Rattle.std.specs.Str.Parse.{digits_value};
 ghost use Rattle.vg_model.specs.Graph.{plain_kinds};
 ghost use Rattle.vg_script.specs.Reader.{Refuses};
 ghost use Rattle.vg_script.specs.Classes.{names_of, is_decimal as is_decimal_word, number_of, pair_of, mac_of, address_of, prefix_of};
@@ -69,6 +71,33 @@ fn is_decimal(word: &[u8]) -> bool
     word.len() == 1 || word[0] != b'0'
 }
 
+/// How many digits say a number below 2^64, whichever they are.
+const FEW_DIGITS: usize = 19;
+
+/// A number, where it is in this range.
+fn within(number: u64, least: u64, most: u64) -> Option<u64>
+    ensures { result ≡ (if nat_le least number && nat_le number most then Some number else None) }
+{
+    if least <= number && number <= most {
+        Some(number)
+    } else {
+        None
+    }
+}
+
+/// The number that so few digits say.
+fn value_of_few(digits: &[u8]) -> u64
+    requires digits { list_all is_ascii_digit digits.now ≡ true }
+    requires few { length digits.now ≤ FEW_DIGITS }
+    ensures { result ≡ digits_value 10 digits.now }
+{
+    let mut value: u64 = 0;
+    for digit in digits {
+        value = value * 10 + u64::from(*digit - b'0');
+    }
+    value
+}
+
 /// The number that a word says, where it is in its range.
 pub fn number(word: &[u8], least: u64, most: u64) -> Option<u64>
     ensures value { result ≡ number_of least most word.now }
@@ -77,12 +106,15 @@ pub fn number(word: &[u8], least: u64, most: u64) -> Option<u64>
     if !is_decimal(word) {
         return None;
     }
+    if word.len() <= FEW_DIGITS {
+        return within(value_of_few(word), least, most);
+    }
     let Ok(digits) = str::from_utf8(word) else {
         return None;
     };
     match digits.parse::<u64>() {
-        Ok(number) if least <= number && number <= most => Some(number),
-        _ => None,
+        Ok(number) => within(number, least, most),
+        Err(_) => None,
     }
 }
 

@@ -10,8 +10,8 @@ returns-in_default-clause-value c =
     let decimal : is_decimal c.args.word.now ≡ true = sym c.if-not-is_decimal.ensures in
     absurd (c.in_default.ensures.cases.0 (digits_are_utf8 c.args.word.now (decimal_digits c.args.word.now decimal)))
 
-pub returns-in_default-parse-3-clause-value : goal.returns-in_default-parse-3-clause-value
-returns-in_default-parse-3-clause-value c =
+pub returns-in-Err-clause-value : goal.returns-in-Err-clause-value
+returns-in-Err-clause-value c =
     let decimal : is_decimal c.args.word.now ≡ true = sym c.if-not-is_decimal.ensures in
-    no_number _ c.args.least c.args.most c.args.word.now c.in_default-parse.field-0 (omega arith) decimal
-    (subst (λ text. ParsesUnsigned 64 10 text (Err c.in_default-parse.field-0)) c.in-Ok.ensures.cases.0 c.in_default-parse.ensures.value.0)
+    no_number _ c.args.least c.args.most c.args.word.now c.in-Err.field-0 (omega (arith, c.ranges.most.fits)) decimal
+    (subst (λ text. ParsesUnsigned 64 10 text (Err c.in-Err.field-0)) c.in-Ok.ensures.cases.0 (subst (ParsesUnsigned 64 10 c.in-Ok.digits.now) c.in-Err.is c.parse.ensures.value.0))
