@@ -1,11 +1,11 @@
 //! Writing the text of a report. Each function appends to one growing buffer; where memory runs out it stops.
-ghost use Rattle.std.specs.Prelude.{◌≡◌, ◌++◌, [], ◌∷◌, decimal, flat_map, map, OnOk, IfOk};
+ghost use Rattle.std.specs.Prelude.{◌≡◌, ◌++◌, [], ◌∷◌, ◌<◌, codes, decimal, flat_map, map, OnOk, IfOk};
 ghost use Rattle.vg_report.specs.Text.{line_text, numbered, count_line, head_lines, interface_line, node_line, error_line, leg_text, legs_word, further, congested_words, end_words, packet_line, trace_line, text};
 ghost use Rattle.vg_report.specs.Lawful.{IsLawful};
-ghost use Rattle.vg_report.specs.Seen.{line_seen, end_seen};
+ghost use Rattle.vg_report.specs.Seen.{line_seen, legs_seen, end_seen};
 
 use crate::lists::{Names, PacketLines};
-use crate::reports::{EndRef, LineRef, Report};
+use crate::reports::{EndRef, LegsRef, LineRef, Report};
 use itoa::Buffer;
 use std::alloc::{AllocError, Global};
 use vg_model::{Bytes, DropError, Leg, Memory, Name};
@@ -169,13 +169,102 @@ fn put_end(out: &mut Vec<u8>, end: &EndRef<'_>) -> Result<(), AllocError>
     }
 }
 
+// Appends `packet`, a number of at most five digits and a leg of two: the front of most lines, as one piece.
+#[inline]
+fn put_short_front(out: &mut Vec<u8>, number: u32, leg: Leg) -> Result<(), AllocError>
+    requires number { number < 100000 }
+    requires leg { (leg.worker < 10) × (leg.generation < 10) }
+    ensures { OnOk result (out.new.items ≡ out.old.items ++ (codes "packet " ++ (decimal number ++ 32 ∷ leg_text leg))) }
+{
+    let worker = b'0' + leg.worker;
+    let generation = b'0' + leg.generation as u8;
+    let ones = b'0' + (number % 10) as u8;
+    if number < 10 {
+        return put(
+            out,
+            &[
+                b'p', b'a', b'c', b'k', b'e', b't', b' ', ones, b' ', worker, b':', generation,
+            ],
+        );
+    }
+    let tens = b'0' + (number / 10 % 10) as u8;
+    if number < 100 {
+        return put(
+            out,
+            &[
+                b'p', b'a', b'c', b'k', b'e', b't', b' ', tens, ones, b' ', worker, b':',
+                generation,
+            ],
+        );
+    }
+    let hundreds = b'0' + (number / 10 / 10 % 10) as u8;
+    if number < 1_000 {
+        return put(
+            out,
+            &[
+                b'p', b'a', b'c', b'k', b'e', b't', b' ', hundreds, tens, ones, b' ', worker, b':',
+                generation,
+            ],
+        );
+    }
+    let thousands = b'0' + (number / 10 / 10 / 10 % 10) as u8;
+    if number < 10_000 {
+        return put(
+            out,
+            &[
+                b'p', b'a', b'c', b'k', b'e', b't', b' ', thousands, hundreds, tens, ones, b' ',
+                worker, b':', generation,
+            ],
+        );
+    }
+    let first = b'0' + (number / 10 / 10 / 10 / 10 % 10) as u8;
+    put(
+        out,
+        &[
+            b'p', b'a', b'c', b'k', b'e', b't', b' ', first, thousands, hundreds, tens, ones, b' ',
+            worker, b':', generation,
+        ],
+    )
+}
+
+// Appends `packet`, the number of the packet and its one leg.
+#[inline]
+fn put_front_of_one(out: &mut Vec<u8>, number: usize, leg: Leg) -> Result<(), AllocError>
+    ensures { OnOk result (out.new.items ≡ out.old.items ++ (codes "packet " ++ (decimal number ++ 32 ∷ leg_text leg))) }
+{
+    if number < 100_000 && leg.worker < 10 && leg.generation < 10 {
+        return put_short_front(out, number as u32, leg);
+    }
+    put(out, b"packet ")?;
+    put_decimal(out, number as u64)?;
+    put_leg(out, b' ', leg)
+}
+
+// Appends `packet`, the number of the packet and its legs.
+fn put_long_front(out: &mut Vec<u8>, number: usize, legs: &[Leg]) -> Result<(), AllocError>
+    ensures { OnOk result (out.new.items ≡ out.old.items ++ (codes "packet " ++ (decimal number ++ 32 ∷ legs_word legs.now))) }
+{
+    put(out, b"packet ")?;
+    put_decimal(out, number as u64)?;
+    put_legs(out, legs)
+}
+
+// Appends the front of a packet's line, up to its legs.
+#[inline]
+fn put_front(out: &mut Vec<u8>, number: usize, legs: LegsRef<'_>) -> Result<(), AllocError>
+    ensures { OnOk result (out.new.items ≡ out.old.items ++ (codes "packet " ++ (decimal number ++ 32 ∷ legs_word (legs_seen legs.entry)))) }
+{
+    match legs {
+        LegsRef::One(leg) => put_front_of_one(out, number, leg),
+        LegsRef::Kept(legs) => put_long_front(out, number, legs.as_slice()),
+    }
+}
+
 #[inline]
 fn put_packet_line(out: &mut Vec<u8>, number: usize, packet: &LineRef<'_>) -> Result<(), AllocError>
     ensures { OnOk result (out.new.items ≡ out.old.items ++ line_text (packet_line number (line_seen packet.now))) }
 {
-    put(out, b"packet ")?;
-    put_decimal(out, number as u64)?;
-    put_legs(out, packet.legs.as_slice())?;
+    put_front(out, number, packet.legs)?;
     put_congested(out, packet.congested)?;
     put_end(out, &packet.end)
 }

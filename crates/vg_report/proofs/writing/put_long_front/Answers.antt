@@ -1,0 +1,15 @@
+use Rattle.std.proofs.Common.{decimal}
+use Rattle.std.proofs.lemmas.Result.{on_ok_weaker}
+use Rattle.vg_report.specs.Text.{legs_word}
+use Rattle.vg_report.proofs.LineLemmas.{front_steps}
+use Rattle.vg_report.proofs.writing.put_long_front.Goals as goal
+
+pub returns : goal.returns
+returns c =
+    on_ok_weaker c.put_legs.result (λ e. cc (
+      e,
+      c.in_ok-put.ensures,
+      c.in_ok-put_decimal.ensures,
+      front_steps c.args.out.now.items (decimal c.args.number) (legs_word c.args.legs.now),
+    ))
+    c.put_legs.ensures
