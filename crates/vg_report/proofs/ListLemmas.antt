@@ -1,9 +1,13 @@
 -- Lists that grow at their end, and names in them.
-use Rattle.std.proofs.Common.{◌≡◌, ℕ, ◌+◌, Bool, true, false, cond, List, [], ◌∷◌, ◌++◌, sym, ap, refl, ◌∙◌}
+use Rattle.std.proofs.Common.{◌≡◌, ℕ, ◌+◌, ◌<◌, Bool, true, false, cond, ltb, ltb-true, List, [], ◌∷◌, ◌++◌, length, get_or, sym, ap, refl, ◌∙◌}
 use Rattle.std.specs.Prelude.{Some, None, map, bytes_eq}
-use Rattle.std.specs.List.{position_from, AllByRecursion, IsDistinct}
-use Rattle.std.proofs.lemmas.Option.{none-some}
+use Rattle.std.specs.List.{position_from, position_or_len, AllByRecursion, IsDistinct}
+use Rattle.std.proofs.Math.ListN.{get_or-map}
+use Rattle.std.proofs.lemmas.Iterator.Adapters.{position_from-zero}
+use Rattle.std.proofs.lemmas.List.Sums.{passes_at_first}
+use Rattle.std.proofs.lemmas.Option.{none-some, same_Some}
 use Rattle.std.proofs.lemmas.Slice.Eq.{bytes_eq-Decides}
+use Rattle.vg_report.specs.Lawful.{names, number_of}
 
 -- what holds of each element and of one more
 pub all_append : {X : Type 0} (P : X → Type 0) (xs : List X) (x : X) → AllByRecursion P xs → P x → AllByRecursion P (xs ++ x ∷ [])
@@ -65,3 +69,22 @@ pub distinct_front : (xs : List (List ℕ)) (name : List ℕ) (ys : List (List �
 unfolding IsDistinct
 distinct_front [] name ys d = tt
 distinct_front (x ∷ xs) name ys d = ((all_split (λ y. bytes_eq x y ≡ false) xs (name ∷ ys) d.0).1.0, distinct_front xs name ys d.1)
+
+-- the entry in the place of a name has the name
+pub name_at_place : (entries : List (List ℕ × ℕ)) (name : List ℕ) (place : ℕ) (entry : List ℕ × ℕ) → Some place ≡ number_of (names entries) name
+    → entry ≡ get_or entries place entry → entry.0 ≡ name
+name_at_place entries name place entry at is =
+    by_test (ltb (position_or_len (λ x. bytes_eq x name) (names entries)) (length (names entries))) refl (at ∙ sym (position_from-zero (λ x. bytes_eq x name) (names entries)))
+  where
+    by_test : (b : Bool) → ltb (position_or_len (λ x. bytes_eq x name) (names entries)) (length (names entries)) ≡ b
+        → Some place ≡ cond b (Some (position_or_len (λ x. bytes_eq x name) (names entries))) None → entry.0 ≡ name
+    by_test true e h =
+        let here : place ≡ position_or_len (λ x. bytes_eq x name) (names entries) = same_Some place (position_or_len (λ x. bytes_eq x name) (names entries)) h in
+        let within : position_or_len (λ x. bytes_eq x name) (names entries) < length (names entries) =
+        ltb-true (position_or_len (λ x. bytes_eq x name) (names entries)) (length (names entries)) e in
+        let passes : bytes_eq (get_or (names entries) (position_or_len (λ x. bytes_eq x name) (names entries)) entry.0) name ≡ true =
+        passes_at_first (λ x. bytes_eq x name) (names entries) entry.0 within in
+        let same : get_or (names entries) place entry.0 ≡ entry.0 = get_or-map (λ (x : List ℕ × ℕ). x.0) entries place entry ∙ ap (λ (x : List ℕ × ℕ). x.0) (sym is) in
+        sym same ∙ ap (λ n. get_or (names entries) n entry.0) here
+        ∙ bytes_eq_true (get_or (names entries) (position_or_len (λ x. bytes_eq x name) (names entries)) entry.0) name passes
+    by_test false e h = absurd (none-some place (sym h))

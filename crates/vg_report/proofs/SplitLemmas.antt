@@ -1,5 +1,5 @@
 -- Texts that are cut at the first byte of a kind.
-use Rattle.std.proofs.Common.{◌≡◌, ◌==◌, ℕ, suc, ◌+◌, ◌-◌, ◌<◌, ◌≤◌, Bool, true, false, List, [], ◌∷◌, length, take, drop, Bor, not, refl, sym, subst, ap, ◌∙◌, arith}
+use Rattle.std.proofs.Common.{◌≡◌, ◌==◌, ℕ, suc, ◌+◌, ◌-◌, ◌<◌, ◌≤◌, Bool, true, false, List, [], ◌∷◌, length, take, drop, Bor, not, refl, sym, subst, ap, ◌∙◌, arith, eq-eqb, ne_eqb}
 use Rattle.std.specs.Prelude.{Option, Some, None, is_some, get_or}
 use Rattle.std.specs.Option.{option_copied}
 use Rattle.std.specs.List.{position_or_len, before_first, after_first, slice_split, onto_first}
@@ -26,6 +26,18 @@ at_first mark text place h =
 pub at_no_first : (mark : ℕ) (text : List ℕ) → IsFirstByte (is_byte mark) text None → length text ≤ position_or_len (λ byte. byte == mark) text
 at_no_first mark text h =
     let is = position_or_len_is (λ byte. byte == mark) text (length text) 0 (omega arith) (λ k below. is_not mark (get_or text k 0) (h k (omega arith) below)) (λ within. absurd (omega (arith, within))) in
+    subst (λ n. length text ≤ n) (sym is) (omega arith)
+
+-- the same, where one byte after the other was looked at
+pub at_near : (mark : ℕ) (text : List ℕ) (place : ℕ) → place < length text → ((k : ℕ) → k < place → get_or text k 0 ≡ mark → ⊥) → get_or text place 0 ≡ mark
+    → (place ≡ position_or_len (λ byte. byte == mark) text) × (position_or_len (λ byte. byte == mark) text < length text)
+at_near mark text place high before at =
+    let is = position_or_len_is (λ byte. byte == mark) text place 0 (omega (arith, high)) (λ k below. ne_eqb (get_or text k 0) mark (before k below)) (λ within. eq-eqb (get_or text place 0) mark at) in
+    (sym is, subst (λ n. n < length text) (sym is) high)
+
+pub at_none_near : (mark : ℕ) (text : List ℕ) → ((k : ℕ) → k < length text → get_or text k 0 ≡ mark → ⊥) → length text ≤ position_or_len (λ byte. byte == mark) text
+at_none_near mark text none =
+    let is = position_or_len_is (λ byte. byte == mark) text (length text) 0 (omega arith) (λ k below. ne_eqb (get_or text k 0) mark (none k below)) (λ within. absurd (omega (arith, within))) in
     subst (λ n. length text ≤ n) (sym is) (omega arith)
 
 -- what stands before the place, and what stands behind it

@@ -49,6 +49,10 @@ impl LineKind {
     pub fn of(word: &[u8]) -> Option<LineKind>
         ensures { result ≡ kind_of word.now }
     {
+        // Most lines are of packets.
+        if LineKind::Packet.is(word) {
+            return Some(LineKind::Packet);
+        }
         LineKind::ALL.iter().find(|kind| kind.is(word)).copied()
     }
 }

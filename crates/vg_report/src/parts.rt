@@ -16,6 +16,18 @@ pub fn cut_at_first(text: &[u8], mark: u8) -> Option<(&[u8], &[u8])>
     }
 }
 
+/// The same of a text whose byte mostly stands near: it looks at one byte after the other.
+pub fn cut_at_near(text: &[u8], mark: u8) -> Option<(&[u8], &[u8])>
+    ensures { MatchOption result (IsCut mark text.now None) (λ cut. IsCut mark text.now (Some (cut.0.now, cut.1.now))) }
+{
+    for (place, byte) in text.iter().enumerate() {
+        if *byte == mark {
+            return Some((&text[..place], &text[place + 1..]));
+        }
+    }
+    None
+}
+
 /// The parts of a text between the bytes of one value, one after the other.
 #[derive(Drop)]
 pub struct Parts<'a> {
@@ -57,7 +69,7 @@ impl<'a> Parts<'a> {
     {
         let mark = self.mark;
         let text = self.rest?;
-        match cut_at_first(text, mark) {
+        match cut_at_near(text, mark) {
             Some((part, rest)) => {
                 *self = Parts {
                     rest: Some(rest),

@@ -1,6 +1,8 @@
 //! The words of a line, and what they mean.
-ghost use Rattle.std.specs.Prelude.{◌≡◌, ◌≤◌, ◌<◌, length, IfSome, IfOk, MatchResult, [], ◌∷◌, bytes_eq};
+ghost use Rattle.std.specs.Prelude.{◌≡◌, ◌+◌, ◌-◌, ◌*◌, ◌^◌, ◌≤◌, ◌<◌, ◌==◌, ◌&&◌, ◌||◌, not, nat_lt, true, length, slice_index, IfSome, IfOk, MatchOption, MatchResult, [], ◌∷◌, bytes_eq, if◌then◌else◌};
+ghost use Rattle.std.specs.Char.{is_ascii_digit};
 ghost use Rattle.std.specs.List.{position_from};
+ghost use Rattle.std.specs.Str.Parse.{digits_value};
 ghost use Rattle.vg_model.specs.Errors.{error_word};
 ghost use Rattle.vg_report.specs.Answers.{found};
 ghost use Rattle.vg_report.specs.Forms.{a_word, fixed, a_number, a_running_number, a_new_name, a_declared_name, an_error, end_of_line, is_congestion as congestion, a_word_of};
@@ -10,19 +12,55 @@ ghost use Rattle.vg_report.specs.Words.{is_decimal as is_decimal_word, number_wi
 
 use crate::errors::ReportCause;
 use crate::kinds::LineKind;
-use crate::parts::{Parts, cut_at_first};
-use std::str;
+use crate::parts::{Parts, cut_at_near};
 use vg_model::limits::MOST_LEGS;
 use vg_model::{DropError, Leg, Legs, Name};
+
+/// Whether the word isn't empty, and has no 0 in front of further bytes.
+fn begins_as_decimal(word: &[u8]) -> bool
+    ensures { result ≡ (nat_lt 0 (length word.now) && (length word.now == 1 || not (slice_index word.now 0 == 48))) }
+{
+    if word.is_empty() {
+        return false;
+    }
+    word.len() == 1 || word[0] != b'0'
+}
 
 /// Whether the word is decimal digits, the first of several not 0.
 fn is_decimal(word: &[u8]) -> bool
     ensures { result ≡ is_decimal_word word.now }
 {
-    if word.is_empty() || !word.iter().all(|byte| byte.is_ascii_digit()) {
+    if !word.iter().all(|byte| byte.is_ascii_digit()) {
         return false;
     }
-    word.len() == 1 || word[0] != b'0'
+    begins_as_decimal(word)
+}
+
+/// A number with one more digit behind it, where the byte is one and 64 bits are enough.
+#[inline]
+fn with_digit(number: u64, byte: u8) -> Option<u64>
+    ensures { MatchOption result (is_ascii_digit byte ≡ true → 2 ^ 64 ≤ number * 10 + (byte - 48)) (λ more. (is_ascii_digit byte ≡ true) × (more ≡ number * 10 + (byte - 48))) }
+{
+    if !byte.is_ascii_digit() {
+        return None;
+    }
+    let tens = number.checked_mul(10)?;
+    let more = tens.checked_add((byte - b'0') as u64)?;
+    Some(more)
+}
+
+/// The number that a word says, where 64 bits are enough for it.
+fn value_of(word: &[u8]) -> Option<u64>
+    ensures { MatchOption result (is_decimal_word word.now ≡ true → 2 ^ 64 ≤ digits_value 10 word.now) (λ number. (is_decimal_word word.now ≡ true) × (number ≡ digits_value 10 word.now)) }
+{
+    if !begins_as_decimal(word) {
+        return None;
+    }
+    let mut number = 0;
+    for byte in word {
+        number = with_digit(number, *byte)?;
+    }
+    Some(number)
 }
 
 /// The number that a word says, where it is in its range.
@@ -30,16 +68,11 @@ fn number(word: &[u8], least: u64, most: u64) -> Option<u64>
     ensures value { result ≡ number_within least most word.now }
     ensures within { IfSome result (λ number. (least ≤ number) × (number ≤ most)) }
 {
-    if !is_decimal(word) {
-        return None;
+    let number = value_of(word)?;
+    if least <= number && number <= most {
+        return Some(number);
     }
-    let Ok(digits) = str::from_utf8(word) else {
-        return None;
-    };
-    match digits.parse::<u64>() {
-        Ok(number) if least <= number && number <= most => Some(number),
-        _ => None,
-    }
+    None
 }
 
 /// The number that a word says, where it is below the bound.
@@ -53,11 +86,22 @@ fn number_under(word: &[u8], bound: u64) -> Option<u64>
     number(word, 0, bound - 1)
 }
 
+/// Why a word that isn't the running number that is next can't stand there.
+fn refused_number(word: &[u8]) -> ReportCause
+    ensures { result ≡ (if is_decimal_word word.now then ReportCause.Order else ReportCause.Number) }
+{
+    if is_decimal(word) {
+        ReportCause::Order
+    } else {
+        ReportCause::Number
+    }
+}
+
 /// The leg that a text says.
 fn leg(text: &[u8], workers: u8, generations: u32) -> Option<Leg>
     ensures { result ≡ leg_of workers generations text.now }
 {
-    let (worker, generation) = cut_at_first(text, b':')?;
+    let (worker, generation) = cut_at_near(text, b':')?;
     let worker = number_under(worker, u64::from(workers))?;
     let generation = number_under(generation, u64::from(generations))?;
     Some(Leg {
@@ -156,12 +200,9 @@ impl<'a> Parts<'a> {
         ensures { a_running_number next self.old ≡ found result self.new }
     {
         let word = self.word()?;
-        if !is_decimal(word) {
-            return Err(ReportCause::Number);
-        }
         match number(word, next as u64, next as u64) {
             Some(_) => Ok(()),
-            None => Err(ReportCause::Order),
+            None => Err(refused_number(word)),
         }
     }
 
@@ -188,9 +229,9 @@ impl<'a> Parts<'a> {
     pub fn declared_name(&mut self, declared: &[(Name, u64)]) -> Result<Name, ReportCause>
         ensures { a_declared_name (names declared.now) self.old ≡ found result self.new }
     {
-        let name = self.name()?;
-        match place_of(declared, name.bytes()) {
-            Some(_) => Ok(name),
+        let word = self.word()?;
+        match place_of(declared, word) {
+            Some(place) => Ok(declared[place].0.copied()),
             None => Err(ReportCause::Unknown),
         }
     }

@@ -169,7 +169,7 @@ fn put_end(out: &mut Vec<u8>, end: &EndRef<'_>) -> Result<(), AllocError>
     }
 }
 
-// Appends `packet`, a number of at most five digits and a leg of two: the front of most lines, as one piece.
+// Appends the front of most lines as one piece: `packet`, a number of at most five digits, and a leg whose two numbers have one digit.
 #[inline]
 fn put_short_front(out: &mut Vec<u8>, number: u32, leg: Leg) -> Result<(), AllocError>
     requires number { number < 100000 }

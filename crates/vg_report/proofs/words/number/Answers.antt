@@ -1,17 +1,6 @@
-use Rattle.std.proofs.Common.{◌≡◌, true, subst, sym, arith}
-use Rattle.std.specs.Prelude.{Err}
-use Rattle.std.specs.Str.Parse.{ParsesUnsigned}
-use Rattle.vg_report.specs.Words.{is_decimal}
-use Rattle.vg_report.proofs.WordLemmas.{digits_are_utf8, decimal_digits, no_number}
+use Rattle.std.proofs.Common.{◌∙◌, arith}
+use Rattle.vg_report.proofs.WordLemmas.{none_within}
 use Rattle.vg_report.proofs.words.number.Goals as goal
 
-pub returns-in_default-clause-value : goal.returns-in_default-clause-value
-returns-in_default-clause-value c =
-    let decimal : is_decimal c.args.word.now ≡ true = sym c.if-not-is_decimal.ensures in
-    absurd (c.in_default.ensures.cases.0 (digits_are_utf8 c.args.word.now (decimal_digits c.args.word.now decimal)))
-
-pub returns-in_default-parse-3-clause-value : goal.returns-in_default-parse-3-clause-value
-returns-in_default-parse-3-clause-value c =
-    let decimal : is_decimal c.args.word.now ≡ true = sym c.if-not-is_decimal.ensures in
-    no_number _ c.args.least c.args.most c.args.word.now c.in_default-parse.field-0 (omega arith) decimal
-    (subst (λ text. ParsesUnsigned 64 10 text (Err c.in_default-parse.field-0)) c.in-Ok.ensures.cases.0 c.in_default-parse.ensures.value.0)
+pub returns-in_err-number-clause-value : goal.returns-in_err-number-clause-value
+returns-in_err-number-clause-value c = c.from_residual.ensures ∙ none_within c.args.least c.args.most c.args.word.now (omega arith) c.in_err-number.ensures
