@@ -1,4 +1,5 @@
 pub mod LineLemmas
+pub mod DigitLemmas
 pub mod TextExamples
 pub mod LawfulExamples
 pub mod SplitLemmas

@@ -1,7 +1,7 @@
 -- Lines and words in a row.
-use Rattle.std.proofs.Common.{◌≡◌, ℕ, ◌+◌, ◌/◌, ◌%◌, ◌<◌, ◌≤◌, List, [], ◌∷◌, ◌++◌, length, take, get_or, refl, sym, ap, ◌∙◌, append-nil, append_assoc, add-zero, zero-add, suc, length-take-le, arith}
+use Rattle.std.proofs.Common.{◌≡◌, ℕ, ◌+◌, ◌<◌, List, [], ◌∷◌, ◌++◌, length, take, get_or, refl, sym, ap, ◌∙◌, append-nil, append_assoc, add-zero, zero-add, suc, length-take-le, arith}
 use Rattle.std.proofs.lemmas.List.{take_more}
-use Rattle.std.proofs.lemmas.Fmt.{decimal_digit, decimal_step}
+use Rattle.std.proofs.lemmas.Fmt.{decimal_digit}
 use Rattle.std.proofs.lemmas.Grind.{flat_map-append}
 use Rattle.std.specs.Prelude.{flat_map, map, codes, decimal}
 use Rattle.std.specs.List.{join_with_byte}
@@ -44,27 +44,6 @@ front_steps before number legs = append_assoc (before ++ codes "packet ") number
 pub leg_text-digits : (leg : Leg) → leg.worker < 10 → leg.generation < 10 → leg_text leg ≡ (48 + leg.worker) ∷ 58 ∷ (48 + leg.generation) ∷ []
 leg_text-digits leg worker generation =
     ap (λ r. r ++ 58 ∷ decimal leg.generation) (decimal_digit leg.worker worker) ∙ ap (λ r. (48 + leg.worker) ∷ 58 ∷ r) (decimal_digit leg.generation generation)
-
--- the digits of a number, of which there are one to five
-pub one_digit : (n : ℕ) → n < 10 → decimal n ≡ (48 + n % 10) ∷ []
-one_digit n small = let same : n ≡ n % 10 = omega arith in decimal_digit n small ∙ ap (λ d. (48 + d) ∷ []) same
-
-pub two_digits : (n : ℕ) → 10 ≤ n → n < 100 → decimal n ≡ (48 + n / 10 % 10) ∷ (48 + n % 10) ∷ []
-two_digits n long short = decimal_step n long (omega arith) ∙ ap (λ ds. ds ++ (48 + n % 10) ∷ []) (one_digit (n / 10) (omega arith))
-
-pub three_digits : (n : ℕ) → 100 ≤ n → n < 1000 → decimal n ≡ (48 + n / 10 / 10 % 10) ∷ (48 + n / 10 % 10) ∷ (48 + n % 10) ∷ []
-three_digits n long short =
-    decimal_step n (omega arith) (omega arith) ∙ ap (λ ds. ds ++ (48 + n % 10) ∷ []) (two_digits (n / 10) (omega arith) (omega arith))
-
-pub four_digits : (n : ℕ) → 1000 ≤ n → n < 10000
-    → decimal n ≡ (48 + n / 10 / 10 / 10 % 10) ∷ (48 + n / 10 / 10 % 10) ∷ (48 + n / 10 % 10) ∷ (48 + n % 10) ∷ []
-four_digits n long short =
-    decimal_step n (omega arith) (omega arith) ∙ ap (λ ds. ds ++ (48 + n % 10) ∷ []) (three_digits (n / 10) (omega arith) (omega arith))
-
-pub five_digits : (n : ℕ) → 10000 ≤ n → n < 100000
-    → decimal n ≡ (48 + n / 10 / 10 / 10 / 10 % 10) ∷ (48 + n / 10 / 10 / 10 % 10) ∷ (48 + n / 10 / 10 % 10) ∷ (48 + n / 10 % 10) ∷ (48 + n % 10) ∷ []
-five_digits n long short =
-    decimal_step n (omega arith) (omega arith) ∙ ap (λ ds. ds ++ (48 + n % 10) ∷ []) (four_digits (n / 10) (omega arith) (omega arith))
 
 -- a number and a leg of short digits, behind `packet`
 pub short_front : (n : ℕ) (leg : Leg) (digits : List ℕ) → leg.worker < 10 → leg.generation < 10 → decimal n ≡ digits

@@ -16,6 +16,10 @@ const ROOM_OF_A_LINE: usize = 48;
 
 const ROOM_OF_THE_OTHERS: usize = 16_384;
 
+// The digits of the numbers below 100, two for each.
+static PAIRS: [u8; 200] =
+    *b"00010203040506070809101112131415161718192021222324252627282930313233343536373839404142434445464748495051525354555657585960616263646566676869707172737475767778798081828384858687888990919293949596979899";
+
 // Appends these bytes.
 fn put(out: &mut Vec<u8>, bytes: &[u8]) -> Result<(), AllocError>
     ensures { OnOk result (out.new.items ≡ out.old.items ++ bytes.now) }
@@ -178,37 +182,21 @@ fn put_short_front(out: &mut Vec<u8>, number: u32, leg: Leg) -> Result<(), Alloc
 {
     let worker = b'0' + leg.worker;
     let generation = b'0' + leg.generation as u8;
-    let ones = b'0' + (number % 10) as u8;
-    if number < 10 {
+    let low = (number % 100) as usize * 2;
+    let (tens, ones) = (PAIRS[low], PAIRS[low + 1]);
+    let high = (number / 100 % 100) as usize * 2;
+    let (thousands, hundreds) = (PAIRS[high], PAIRS[high + 1]);
+    if number >= 10_000 {
+        let first = b'0' + (number / 100 / 100) as u8;
         return put(
             out,
             &[
-                b'p', b'a', b'c', b'k', b'e', b't', b' ', ones, b' ', worker, b':', generation,
+                b'p', b'a', b'c', b'k', b'e', b't', b' ', first, thousands, hundreds, tens, ones,
+                b' ', worker, b':', generation,
             ],
         );
     }
-    let tens = b'0' + (number / 10 % 10) as u8;
-    if number < 100 {
-        return put(
-            out,
-            &[
-                b'p', b'a', b'c', b'k', b'e', b't', b' ', tens, ones, b' ', worker, b':',
-                generation,
-            ],
-        );
-    }
-    let hundreds = b'0' + (number / 10 / 10 % 10) as u8;
-    if number < 1_000 {
-        return put(
-            out,
-            &[
-                b'p', b'a', b'c', b'k', b'e', b't', b' ', hundreds, tens, ones, b' ', worker, b':',
-                generation,
-            ],
-        );
-    }
-    let thousands = b'0' + (number / 10 / 10 / 10 % 10) as u8;
-    if number < 10_000 {
+    if number >= 1_000 {
         return put(
             out,
             &[
@@ -217,12 +205,28 @@ fn put_short_front(out: &mut Vec<u8>, number: u32, leg: Leg) -> Result<(), Alloc
             ],
         );
     }
-    let first = b'0' + (number / 10 / 10 / 10 / 10 % 10) as u8;
+    if number >= 100 {
+        return put(
+            out,
+            &[
+                b'p', b'a', b'c', b'k', b'e', b't', b' ', hundreds, tens, ones, b' ', worker, b':',
+                generation,
+            ],
+        );
+    }
+    if number >= 10 {
+        return put(
+            out,
+            &[
+                b'p', b'a', b'c', b'k', b'e', b't', b' ', tens, ones, b' ', worker, b':',
+                generation,
+            ],
+        );
+    }
     put(
         out,
         &[
-            b'p', b'a', b'c', b'k', b'e', b't', b' ', first, thousands, hundreds, tens, ones, b' ',
-            worker, b':', generation,
+            b'p', b'a', b'c', b'k', b'e', b't', b' ', ones, b' ', worker, b':', generation,
         ],
     )
 }
