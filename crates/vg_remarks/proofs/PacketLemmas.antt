@@ -1,29 +1,44 @@
--- For `ends_of`: what one packet more adds.
-use Rattle.std.proofs.Common.{◌≡◌, ℕ, ◌+◌, Bool, true, false, List, [], ◌∷◌, ◌++◌, take, get_or, sym, ap, ◌∙◌, refl, add-one, add-zero, arith}
-use Rattle.std.specs.Prelude.{Some, count_by, slice_get, option_to_list, if◌then◌else◌}
+-- For `packets`: what one packet more adds, and what is said of it.
+use Rattle.std.proofs.Common.{◌≡◌, ℕ, ◌+◌, Bool, true, false, List, ◌++◌, take, ap, ◌∙◌, refl, add-one}
+use Rattle.std.specs.Prelude.{Option, Some, None, count_by, option_map, slice_get, option_to_list, if◌then◌else◌}
 use Rattle.std.proofs.lemmas.List.Sums.{count_by_more_yes, count_by_more_no}
 use Rattle.std.proofs.lemmas.Option.{slice_get_within, get_or_from_slice_get}
 use Rattle.vg_model.specs.declared.routes.Prefix.{Prefix}
 use Rattle.vg_capture.specs.declared.captures.Captured.{Captured}
 use Rattle.vg_report.specs.declared.reports.PacketLine.{PacketLine}
-use Rattle.vg_remarks.specs.Packets.{told_below, told_of}
+use Rattle.vg_remarks.specs.declared.packets.Unforwarded.{Unforwarded}
+use Rattle.vg_remarks.specs.Addresses.{destination}
+use Rattle.vg_remarks.specs.Packets.{is_sent, said_of, told_below, told_of}
 
--- the count of one element
-count_one : {X : Type 0} (p : X → Bool) (x : X) (b : Bool) → p x ≡ b → count_by p (x ∷ []) ≡ (if b then 1 else 0)
-count_one p x true e = grind (arith, e)
-count_one p x false e = grind (arith, e)
+-- one element more is counted, or isn't
+pub counted : {X : Type 0} (p : X → Bool) (xs : List X) (i : ℕ) (x : X) → slice_get xs i ≡ Some x → p x ≡ true → count_by p (take (i + 1) xs) ≡ count_by p (take i xs) + 1
+counted p xs i x at is = count_by_more_yes p xs i x (slice_get_within xs i x at) (ap p (get_or_from_slice_get xs i x x at) ∙ is)
 
--- one element more is counted
-pub count_next : {X : Type 0} (p : X → Bool) (xs : List X) (i : ℕ) (x : X) → slice_get xs i ≡ Some x → count_by p (take (i + 1) xs) ≡ count_by p (take i xs) + count_by p (x ∷ [])
-count_next p xs i x at =
-    let below = slice_get_within xs i x at in
-    let read : get_or xs i x ≡ x = get_or_from_slice_get xs i x x at in
-    elim (p x) as (λ b. p x ≡ b → count_by p (take (i + 1) xs) ≡ count_by p (take i xs) + count_by p (x ∷ [])) [
-      | true ↦ λ e. count_by_more_yes p xs i x below (ap p read ∙ e) ∙ ap (λ n. count_by p (take i xs) + n) (sym (count_one p x true e))
-      | false ↦ λ e. count_by_more_no p xs i x below (ap p read ∙ e) ∙ (sym (add-zero (count_by p (take i xs))) ∙ ap (λ n. count_by p (take i xs) + n) (sym (count_one p x false e)))
-    ] refl
+pub not_counted : {X : Type 0} (p : X → Bool) (xs : List X) (i : ℕ) (x : X) → slice_get xs i ≡ Some x → p x ≡ false → count_by p (take (i + 1) xs) ≡ count_by p (take i xs)
+not_counted p xs i x at is = count_by_more_no p xs i x (slice_get_within xs i x at) (ap p (get_or_from_slice_get xs i x x at) ∙ is)
 
 -- what is said of one packet more
 pub told_more : (led : List Prefix) (packets : List Captured) (lines : List PacketLine) (n : ℕ)
     → told_below led packets lines (n + 1) ≡ told_below led packets lines n ++ option_to_list (told_of led n (slice_get packets n) (slice_get lines n))
 told_more led packets lines n = ap (told_below led packets lines) (add-one n)
+
+-- nothing is said of a packet where nothing is said of its destination
+nothing_if : (sent : Bool) (one : Option Unforwarded) → one ≡ None → (if sent then one else None) ≡ None
+nothing_if true one is = is
+nothing_if false one is = refl
+
+pub nothing_told : (led : List Prefix) (number : ℕ) (packet : Option Captured) (line : Option PacketLine) (bytes : List ℕ)
+    → option_map (λ (p : Captured). p.bytes) packet ≡ Some bytes → said_of led number (destination bytes) ≡ None → told_of led number packet line ≡ None
+nothing_told led number None line bytes at is = refl
+nothing_told led number (Some packet) None bytes at is = refl
+nothing_told led number (Some packet) (Some line) bytes at is =
+    let same : packet.bytes ≡ bytes = cc in
+    nothing_if (is_sent line.end) (said_of led number (destination packet.bytes)) (ap (λ bs. said_of led number (destination bs)) same ∙ is)
+
+-- what is said of a packet that was transmitted is what is said of its destination, and of another one nothing
+pub told_by : (led : List Prefix) (number : ℕ) (packet : Option Captured) (line : PacketLine) (bytes : List ℕ)
+    → option_map (λ (p : Captured). p.bytes) packet ≡ Some bytes → told_of led number packet (Some line) ≡ (if is_sent line.end then said_of led number (destination bytes) else None)
+told_by led number None line bytes at = cc
+told_by led number (Some packet) line bytes at =
+    let same : packet.bytes ≡ bytes = cc in
+    ap (λ bs. if is_sent line.end then said_of led number (destination bs) else None) same

@@ -2,8 +2,6 @@
 use Rattle.std.specs.Prelude.{◌≡◌, ℕ, ◌+◌, ◌-◌, ◌/◌, ◌^◌, Bool, true, not, ◌&&◌, ◌||◌, ◌==◌, nat_lt, nat_le, List, length, filter, Option, Some, None, if◌then◌else◌}
 use Rattle.std.specs.List.{list_any}
 use Rattle.std.specs.List.Sorted.{IsNonDecreasingBy}
-use Rattle.std.specs.BTreeSet.{contains_by}
-use Rattle.std.specs.Ordering.{nat_cmp}
 use Rattle.vg_model.specs.Bytes.{number16_at, number32_at}
 use Rattle.vg_model.specs.Route.{covers_of, ip4}
 use Rattle.vg_model.specs.declared.routes.Prefix.{Prefix}
@@ -11,6 +9,7 @@ use Rattle.vg_remarks.specs.declared.addresses.Class.{Class}
 use Rattle.vg_remarks.specs.declared.addresses.Class.TheVariants as classes
 use Rattle.vg_remarks.specs.declared.addresses.Known.{Known}
 use Rattle.vg_remarks.specs.declared.prefixes.AddressSet.{AddressSet}
+use Rattle.vg_remarks.specs.Lasts.{has}
 
 -- ---- prefixes
 
@@ -93,6 +92,6 @@ may_be_special prefix = nat_lt prefix.len 8 || is_special (prefix.addr / 2 ^ 24)
 
 -- what is known of the prefixes that routes lead to neighbors
 pub record IsKnown (led : List Prefix) (known : Known) : Type 0 where
-  pub directed : (address : ℕ) → contains_by (nat_cmp address) known.lasts ≡ is_directed led address
+  pub directed : (address : ℕ) → has known.lasts address ≡ is_directed led address
   pub special : IsSetOf (filter may_be_special led) known.special
   pub groups : IsSetOf (filter is_multicast led) known.groups

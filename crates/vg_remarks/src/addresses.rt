@@ -1,13 +1,12 @@
 //! IPv4 addresses that a router does not forward to (RFC 1812, RFC 2644).
 ghost use Rattle.std.specs.Prelude.{◌≡◌, ◌==◌, ◌&&◌, ◌||◌, ◌/◌, ◌^◌, ℕ, true, List, IfOk, OnOk, filter};
-ghost use Rattle.std.specs.BTreeSet.{contains_by};
-ghost use Rattle.std.specs.Ordering.{nat_cmp};
 ghost use Rattle.vg_model.specs.declared.routes.Prefix.{Prefix as PrefixValue};
 ghost use Rattle.vg_remarks.specs.Addresses.{class_of, destination as destination_of, has_group, is_directed as directed, is_led, is_multicast as multicast, is_network as network, is_special as special, last_of, may_be_special as may_cover_special, special_class as class_everywhere, IsKnown, IsSetOf};
+ghost use Rattle.vg_remarks.specs.Lasts.{has};
 
+use crate::lasts::LastAddresses;
 use crate::prefixes::{AddressSet, last_address};
 use std::alloc::{AllocError, Global};
-use std::collections::BTreeSet;
 use vg_model::Prefix;
 use vg_packet::{u16_at, u32_at};
 
@@ -32,7 +31,7 @@ pub enum Class {
 #[derive(Drop)]
 pub struct Known {
     // The last address of each that may be a network's.
-    lasts: BTreeSet<u32>,
+    lasts: LastAddresses,
     // The addresses of those that may cover one which is of a class wherever it occurs.
     special: AddressSet,
     // The addresses of those of multicast addresses alone.
@@ -54,16 +53,17 @@ fn is_multicast(prefix: &Prefix) -> bool
 }
 
 // Puts the last address of a prefix to others, where it may be a network's.
-fn add_last(lasts: &mut BTreeSet<u32>, prefix: &Prefix) -> Result<(), AllocError>
-    ensures { OnOk result ((address : ℕ) → contains_by (nat_cmp address) lasts.new ≡ (contains_by (nat_cmp address) lasts.old || (network prefix.now && last_of prefix.now == address))) }
+fn add_last(lasts: &mut LastAddresses, prefix: &Prefix) -> Result<(), AllocError>
+    ensures { OnOk result ((address : ℕ) → has lasts.new address ≡ (has lasts.old address || (network prefix.now && last_of prefix.now == address))) }
 {
     if is_network(prefix) {
-        lasts.insert(last_address(prefix))?;
+        lasts.add(last_address(prefix))?;
     }
     Ok(())
 }
 
 // Whether the first byte of an address is that of addresses which are of a class wherever they occur.
+#[inline]
 fn is_special(byte: u32) -> bool
     ensures { result ≡ special byte }
 {
@@ -117,7 +117,7 @@ impl Known {
     pub fn of(alloc: Global, led: &[Prefix]) -> Result<Known, AllocError>
         ensures { IfOk result (IsKnown led.now) }
     {
-        let mut lasts = BTreeSet::new(alloc);
+        let mut lasts = LastAddresses::new(alloc)?;
         for prefix in led {
             add_last(&mut lasts, prefix)?;
         }
@@ -128,15 +128,12 @@ impl Known {
         })
     }
 
-    // Whether an address is the last one of a prefix that may be a network's. Such a prefix has at most 30 bits, so the last two of that address
-    // are set, and most addresses need no search.
+    // Whether an address is the last one of a prefix that may be a network's.
+    #[inline]
     fn is_directed(&self, address: u32) -> bool
         ensures { (led : List PrefixValue) → IsKnown led self.now → result ≡ directed led address }
     {
-        if address % 4 != 3 {
-            return false;
-        }
-        self.lasts.contains(&address)
+        self.lasts.contains(address)
     }
 
     // Whether one of the prefixes covers this address, which is of a class wherever it occurs.
@@ -155,6 +152,7 @@ impl Known {
     }
 
     /// Of which class an address is that a router does not forward to, though routes lead it to neighbors.
+    #[inline]
     pub fn class(&self, address: u32) -> Option<Class>
         ensures { (led : List PrefixValue) → IsKnown led self.now → result ≡ class_of led address }
     {
@@ -174,6 +172,7 @@ impl Known {
 }
 
 /// The destination of a frame that has an IPv4 header, behind its type or behind one VLAN tag more.
+#[inline]
 pub fn destination(frame: &[u8]) -> Option<u32>
     ensures { result ≡ destination_of frame.now }
 {

@@ -24,6 +24,7 @@ impl<T: Copy> Found<T> {
     }
 
     /// These, and one more behind them, where there is one.
+    #[inline]
     pub fn with(self, one: Option<T>) -> Found<T>
         requires { self.count < 2 ^ 63 }
         ensures found { (all : List T) → IsFound all self → IsFound (all ++ option_to_list one) result }

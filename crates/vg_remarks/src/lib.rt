@@ -3,12 +3,13 @@
 //! [`remarks_on`] finds them, by the capture, the script and the report alone; [`tell`] writes a sentence for each to the standard error, in a
 //! fixed order.
 //!
-//! In which order to read: `found`, `statements`, `prefixes`, `addresses`, `late`, `packets`, `finding`; then `telling`.
+//! In which order to read: `found`, `statements`, `prefixes`, `lasts`, `addresses`, `late`, `packets`, `finding`; then `telling`.
 #![tactic(auto)]
 
 pub mod addresses;
 pub mod finding;
 pub mod found;
+mod lasts;
 pub mod late;
 pub mod packets;
 mod prefixes;

@@ -1,9 +1,8 @@
 -- For `Known::of`: the last addresses are those of the prefixes so far.
 use Rattle.std.proofs.Common.{◌≡◌, ℕ, take}
-use Rattle.std.specs.BTreeSet.{contains_by}
-use Rattle.std.specs.Ordering.{nat_cmp}
 use Rattle.vg_remarks.specs.Addresses.{is_directed}
+use Rattle.vg_remarks.specs.Lasts.{has}
 use Rattle.vg_remarks.proofs.addresses.Known.of.Given as goal
 
 abbrev pub invariant-loop-prefix : goal.invariant-loop-prefix
-invariant-loop-prefix l = (address : ℕ) → contains_by (nat_cmp address) l.lasts ≡ is_directed (take l.prefix-index l.led) address
+invariant-loop-prefix l = (address : ℕ) → has l.lasts address ≡ is_directed (take l.prefix-index l.led) address
