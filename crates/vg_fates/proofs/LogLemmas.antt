@@ -1,9 +1,9 @@
 -- Fates as workers log them.
-use Rattle.std.proofs.Common.{◌≡◌, ℕ, ◌+◌, ◌<◌, ◌≤◌, ◌^◌, List, [], ◌∷◌, ◌++◌, length, map, take, get_or, refl, sym, ap, subst, ◌∙◌, arith, length-append}
+use Rattle.std.proofs.Common.{◌≡◌, ℕ, ◌+◌, ◌-◌, ◌<◌, ◌≤◌, ◌^◌, All, List, [], ◌∷◌, ◌++◌, length, map, take, get_or, refl, sym, ap, subst, ◌∙◌, arith, length-append}
 use Rattle.std.specs.List.{AllByRecursion}
 use Rattle.std.specs.List.Sorted.{IsPermutation, IsNonDecreasingBy}
 use Rattle.std.proofs.lemmas.List.{append_assoc, take_more, map_push, length-map, get_or_append_left, get_or-append-add, get_or-map}
-use Rattle.std.proofs.lemmas.List.Sorted.{All-permutation, IsPermutation-map, IsPermutation-trans, IsPermutation-middle, IsPermutation-append_comm, IsPermutation-append_left}
+use Rattle.std.proofs.lemmas.List.Sorted.{All-permutation, IsNonDecreasingBy-push, IsPermutation-map, IsPermutation-trans, IsPermutation-middle, IsPermutation-append_comm, IsPermutation-append_left}
 use Rattle.std.proofs.lemmas.List.Elements.{All-tail, All-push, All-append, All-weaker, All-map, recursion_from_All}
 use Rattle.vg_model.specs.declared.fates.Fate.{Fate}
 use Rattle.vg_fates.specs.declared.logs.LogEntry.{LogEntry}
@@ -146,3 +146,23 @@ fates_rise others entries up i j d le lt =
     let last = ap (λ (fate : Fate). fate.number) (get_or-map (fate_in others) entries j none d (omega (arith, lt, size))) in
     let order = up i j none le (omega (arith, lt, size)) in
     omega (arith, first, last, order)
+
+-- elements so far are in order by their numbers, and none of these is above the least that the next may have
+pub record AreInOrder {X : Type 0} (number : X → ℕ) (least : ℕ) (xs : List X) : Type 0 where
+  pub rise : IsNonDecreasingBy number xs
+  pub below : All (λ x. number x ≤ least) xs
+
+-- at the start there is none
+pub none_in_order : {X : Type 0} (number : X → ℕ) (least : ℕ) → AreInOrder number least []
+none_in_order number least = record { rise = λ i j d order inside. absurd (omega (arith, inside)); below = λ i d inside. absurd (omega (arith, inside)) }
+
+-- one more
+pub one_more_in_order : {X : Type 0} (number : X → ℕ) (least : ℕ) (xs : List X) (i : ℕ) (d : X) (next : ℕ) → AreInOrder number least (take i xs) → i < length xs
+    → next ≡ number (get_or xs i d) → least ≤ next → AreInOrder number next (take (i + 1) xs)
+one_more_in_order {X} number least xs i d next so_far inside is le =
+    let front = take i xs in
+    let x = get_or xs i d in
+    subst (AreInOrder number next) (sym (take_more xs i d inside)) (record {
+      rise = IsNonDecreasingBy-push number front x so_far.rise (λ e some. omega (arith, so_far.below (length front - 1) e (omega arith), is, le));
+      below = All-push (λ (y : X). number y ≤ next) front x (All-weaker (λ (y : X). number y ≤ least) (λ (y : X). number y ≤ next) (λ y h. omega (arith, h, le)) front so_far.below) (omega (arith, is));
+    })

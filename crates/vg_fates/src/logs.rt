@@ -1,6 +1,6 @@
 //! What became of packets, as workers log it.
-ghost use Rattle.std.specs.Prelude.{◌≡◌, ◌+◌, ◌<◌, ◌≤◌, ◌^◌, ◌++◌, ◌∷◌, [], ℕ, List, IfOk, IfSome, IsSome, flat_map, length, map, All, Some, slice_get};
-ghost use Rattle.std.specs.Bool.{OnTrue, OnFalse};
+ghost use Rattle.std.specs.Prelude.{◌≡◌, ◌+◌, ◌<◌, ◌≤◌, ◌^◌, ◌++◌, ◌∷◌, [], ℕ, List, IfOk, IfSome, flat_map, length, map, All, Some, slice_get};
+ghost use Rattle.std.specs.Bool.{OnTrue};
 ghost use Rattle.std.specs.List.{AllByRecursion};
 ghost use Rattle.std.specs.List.Sorted.{IsPermutation, IsNonDecreasingBy};
 ghost use Rattle.vg_model.specs.declared.fates.Fate.{Fate};
@@ -155,6 +155,7 @@ impl FateLog {
 }
 
 // The number of a logged packet.
+#[inline]
 fn number_of(others: &[Fate], entry: LogEntry) -> u32
     ensures { result ≡ (fate_in others.now entry).number }
 {
@@ -167,15 +168,31 @@ fn number_of(others: &[Fate], entry: LogEntry) -> u32
     }
 }
 
-// Whether the first of these entries is the next one: it is where there is no second, or that has no smaller number.
-fn is_next(others: &[Fate], first: Option<&LogEntry>, second: Option<&LogEntry>) -> bool
-    ensures first { OnTrue result (IsSome first.entry) }
-    ensures second { IsSome first.entry → OnFalse result (IsSome second.entry) }
+// The number of the entry at a place, and 2^32 where there is none: no packet has this number.
+#[inline]
+fn number_at(others: &[Fate], entries: &[LogEntry], place: usize) -> u64
+    ensures some { place < length entries.now → result < 2 ^ 32 }
+    ensures none { length entries.now ≤ place → result ≡ 2 ^ 32 }
 {
-    match (first, second) {
-        (Some(first), Some(second)) => number_of(others, *first) <= number_of(others, *second),
-        (first, _) => first.is_some(),
+    match entries.get(place) {
+        Some(entry) => u64::from(number_of(others, *entry)),
+        None => 1 << 32,
     }
+}
+
+// Whether the entries stand in the order of their numbers.
+fn are_in_order(entries: &[LogEntry], others: &[Fate]) -> bool
+    ensures { OnTrue result (IsNonDecreasingBy (λ entry. (fate_in others.now entry).number) entries.now) }
+{
+    let mut least = 0;
+    for entry in entries {
+        let number = number_of(others, *entry);
+        if number < least {
+            return false;
+        }
+        least = number;
+    }
+    true
 }
 
 // Puts each fate at the place of its number. Answers whether all stand there: they do where their numbers are those of the places.
@@ -286,13 +303,17 @@ fn merged(
     let mut all = Vec::with_capacity(alloc, count)?;
     let mut first = 0;
     let mut second = 0;
+    let mut first_number = number_at(others, entries, first);
+    let mut second_number = number_at(others, more, second);
     for _place in 0..count {
-        if is_next(others, entries.get(first), more.get(second)) {
+        if first_number <= second_number {
             all.push_reserved(entries[first]);
             first += 1;
+            first_number = number_at(others, entries, first);
         } else {
             all.push_reserved(more[second]);
             second += 1;
+            second_number = number_at(others, more, second);
         }
     }
     Ok(all)
@@ -319,6 +340,9 @@ impl FateList {
         ensures rising { IfOk result (λ fates. IsNonDecreasingBy (λ fate. fate.number) fates) }
     {
         let mut fates = FateList::joined(alloc, lists)?;
+        if fates.is_in_order() {
+            return Ok(fates);
+        }
         fates.sort();
         Ok(fates)
     }
@@ -383,6 +407,7 @@ impl FateList {
     }
 
     /// One of them, by its place in the list, where it is kept: nothing is copied but the fate of a packet with one leg.
+    #[inline]
     pub fn view(&self, k: usize) -> FateRef<'_>
         requires { k < length self.now }
         ensures { slice_get self.now k ≡ Some (fate_seen result) }
@@ -400,6 +425,13 @@ impl FateList {
             },
             LogEntry::Other { place } => FateRef::Other(&self.others[place as usize]),
         }
+    }
+
+    // Whether the fates stand in the order of their numbers.
+    fn is_in_order(&self) -> bool
+        ensures { OnTrue result (IsNonDecreasingBy (λ fate. fate.number) self.now) }
+    {
+        are_in_order(self.entries.as_slice(), self.others.as_slice())
     }
 
     // Puts the fates in the order of their numbers. Those of all packets of a capture aren't sorted: each goes to its place.
