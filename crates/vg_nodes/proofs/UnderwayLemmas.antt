@@ -1,4 +1,4 @@
--- For `dispatch_frame`: a frame under way: its first packets are visited and sorted, and the rest is as it was.
+-- For `visit_each`: a frame under way: its first packets are visited and sorted, and the rest is as it was.
 use Rattle.std.proofs.Common.{◌≡◌, ◌≢◌, ℕ, zero, suc, ◌+◌, ◌<◌, ◌≤◌, true, false, cond, List, [], ◌∷◌, ◌++◌, length, refl, sym, ap, subst, ◌∙◌, arith, append_assoc, length-append}
 use Rattle.std.specs.Prelude.{Option, Some, None, is_some, option_map, option_and_then, slice_set, nat_eq}
 use Rattle.std.specs.List.{AllByRecursion, IsDistinct, cons_option}
@@ -14,7 +14,7 @@ use Rattle.vg_frame.specs.Pending.{frame_size}
 use Rattle.vg_frame.specs.Placed.{buffer_at, count, IsLive}
 use Rattle.vg_nodes.specs.declared.sorted.Sorted.{Sorted}
 use Rattle.vg_nodes.specs.Sorting.{nothing_sorted, HasRoom, put}
-use Rattle.vg_nodes.specs.Dispatch.{NodeVisit, after_visit, next_entry, tx_entry, drop_entry, hand_entry, entries, IsSortedBy, IsVisitedBy}
+use Rattle.vg_nodes.specs.Dispatch.{NodeVisit, IsVisitAs, after_visit, next_entry, tx_entry, drop_entry, hand_entry, entries, IsSortedBy, IsVisitedBy}
 
 -- the memory after the visits of these indexes, one after the other
 abbrev pub after_visits : NodeVisit → List (Option Contents) → List ℕ → List (Option Contents)
@@ -65,7 +65,7 @@ same_at_first : (memory : List (Option Contents)) (frame : List ℕ) → AllByRe
 same_at_first memory [] = tt
 same_at_first memory (index ∷ rest) = (refl, same_at_first memory rest)
 
-pub begins : (visit : NodeVisit) (old : List (Option Contents)) (frame : List ℕ) (out : Sorted) → AllByRecursion (IsLive old) frame → IsDistinct nat_eq frame → length frame ≤ frame_size
+begins : (visit : NodeVisit) (old : List (Option Contents)) (frame : List ℕ) (out : Sorted) → AllByRecursion (IsLive old) frame → IsDistinct nat_eq frame → length frame ≤ frame_size
     → out ≡ nothing_sorted → IsUnderway visit old frame old frame out
 begins visit old frame out live distinct few empty =
     subst (IsUnderway visit old frame old frame) (sym empty) (record {
@@ -143,7 +143,7 @@ room_left left index (Hand hash) out room =
     record { next = omega (arith, room.next); tx = omega (arith, room.tx); drops = omega (arith, room.drops); hands = omega (arith, longer, room.hands) }
 
 -- the next index of the rest is visited, and put by its step
-pub onward : (visit : NodeVisit) (old : List (Option Contents)) (frame : List ℕ) (now : List (Option Contents)) (index : ℕ) (rest : List ℕ) (out : Sorted) (c new : Contents) (step : Step)
+onward : (visit : NodeVisit) (old : List (Option Contents)) (frame : List ℕ) (now : List (Option Contents)) (index : ℕ) (rest : List ℕ) (out : Sorted) (c new : Contents) (step : Step)
     → IsUnderway visit old frame now (index ∷ rest) out → buffer_at now index ≡ Some c
     → (step, new.packet) ≡ visit c.packet → new.legs ≡ c.legs → new.pieces ≡ c.pieces
     → IsUnderway visit old frame (slice_set now index (Some new)) rest (put index step out)
@@ -209,6 +209,35 @@ visits_are visit memory (index ∷ rest) live distinct =
       );
       others = λ other others. later.others other others.1 ∙ get_or-set_other memory index other slot None (λ same. others.0 (sym same));
       count = later.count ∙ (ap (λ s. count (slice_set memory index s)) written ∙ one_written memory index there.0 (after_visit visit there.0) there.1);
+    }
+
+-- a frame under way whatever its visit means, of all that is known to be a meaning of it
+pub record IsVisiting (Means : NodeVisit → Type 0) (old : List (Option Contents)) (frame : List ℕ) (now : List (Option Contents)) (rest : List ℕ) (out : Sorted) : Type 0 where
+  pub live : AllByRecursion (IsLive now) rest
+  pub distinct : IsDistinct nat_eq rest
+  pub room : HasRoomFor (length rest) out
+  pub underway : (visit : NodeVisit) → Means visit → IsUnderway visit old frame now rest out
+
+pub begins_visiting : (Means : NodeVisit → Type 0) (old : List (Option Contents)) (frame : List ℕ) (out : Sorted) → AllByRecursion (IsLive old) frame → IsDistinct nat_eq frame → length frame ≤ frame_size
+    → out ≡ nothing_sorted → IsVisiting Means old frame old frame out
+begins_visiting Means old frame out live distinct few empty =
+    let begun : (visit : NodeVisit) → IsUnderway visit old frame old frame out = λ visit. begins visit old frame out live distinct few empty in
+    record { live = live; distinct = distinct; room = (begun (λ p. (Next 0, p))).room; underway = λ visit means. begun visit }
+
+-- the next index of the rest is visited, and put by its step
+pub visits_next : (Means : NodeVisit → Type 0) (old : List (Option Contents)) (frame : List ℕ) (now : List (Option Contents)) (index : ℕ) (rest : List ℕ) (out : Sorted) (c new : Contents) (step : Step)
+    → IsVisiting Means old frame now (index ∷ rest) out → buffer_at now index ≡ Some c
+    → ((visit : NodeVisit) → Means visit → IsVisitAs visit c step new)
+    → IsVisiting Means old frame (slice_set now index (Some new)) rest (put index step out)
+unfolding IsDistinct
+visits_next Means old frame now index rest out c new step before e visited =
+    record {
+      live = live_behind now index (Some new) rest before.distinct.0 before.live.1;
+      distinct = before.distinct.1;
+      room = room_left (length rest) index step out before.room;
+      underway = λ visit means.
+          (let is : IsVisitAs visit c step new = visited visit means in
+          onward visit old frame now index rest out c new step (before.underway visit means) e is.visited is.legs is.chain);
     }
 
 -- where nothing is left, the frame is sorted

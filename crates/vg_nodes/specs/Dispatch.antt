@@ -1,6 +1,7 @@
 -- What a dispatch makes of a frame: its indexes sorted by the steps of their packets, and the packets as they are then.
 use Rattle.std.specs.Prelude.{◌≡◌, ◌≢◌, ℕ, List, Option, Some, None, option_map, option_and_then}
 use Rattle.std.specs.List.{filter_map, AllByRecursion}
+use Rattle.std.specs.Borrow.{MutBor}
 use Rattle.vg_model.specs.declared.kinds.DropError.{DropError}
 use Rattle.vg_model.specs.declared.kinds.Step.{Step}
 use Rattle.vg_model.specs.declared.kinds.Step.TheVariants.{Next, Tx, Dropped, Hand}
@@ -12,6 +13,16 @@ use Rattle.vg_nodes.specs.declared.sorted.Sorted.{Sorted}
 -- what a visit of one node makes of a packet: the step, and the packet after it
 abbrev pub NodeVisit : Type 0
 NodeVisit = Packet → Step × Packet
+
+-- a visit that gave this step, and left a buffer so, made of its packet what it means; legs and chain stayed
+pub record IsVisitAs (visit : NodeVisit) (before : Contents) (step : Step) (after : Contents) : Type 0 where
+  pub visited : (step, after.packet) ≡ visit before.packet
+  pub legs : after.legs ≡ before.legs
+  pub chain : after.pieces ≡ before.pieces
+
+-- what each visit made of a packet, of all visits of which this holds
+abbrev pub IsMeaningOf : (MutBor Contents → Step → MutBor Contents → Type 0) → NodeVisit → Type 0
+IsMeaningOf gives visit = (before : MutBor Contents) (step : Step) (after : MutBor Contents) → gives before step after → IsVisitAs visit before.now step after.now
 
 -- the step of the packet that an index has
 abbrev pub step_at : NodeVisit → List (Option Contents) → ℕ → Option Step

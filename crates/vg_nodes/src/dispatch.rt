@@ -31,9 +31,5 @@ pub fn dispatch_frame<K: KindSet>(
     ensures visited { IsVisitedBy (K.meaning fork.now.graph node) frame memory.old memory.new }
 {
     let kind = fork.kind(node);
-    let indexes = frame.as_slice();
-    for index in indexes {
-        let step = kinds.visit_at(kind, fork, node, memory.get_mut(*index));
-        out.put(*index, step);
-    }
+    kinds.visit_all(kind, fork, node, frame.as_slice(), memory, out);
 }

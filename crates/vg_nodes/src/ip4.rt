@@ -2,15 +2,18 @@
 ghost use Rattle.vg_model.specs.Visit.{ip4_visit};
 ghost use Rattle.vg_model.proofs.KindLaws.{ip4_laws};
 
-use crate::heads::hash_of;
 use crate::kinds::KindSet;
 use crate::nodes::ethernet_input::ethernet_input;
-use crate::nodes::interfaces::{interface_output, know_interfaces, transmit_interface};
+use crate::nodes::interfaces::{interface_output, interface_tx, know_interfaces};
 use crate::nodes::ip4_input::ip4_input;
 use crate::nodes::ip4_lookup::ip4_lookup;
 use crate::nodes::ip4_rewrite::ip4_rewrite;
 use crate::nodes::steps::{NEXT, dropped};
+use crate::nodes::worker_handoff::worker_handoff;
+use crate::sorted::Sorted;
+use crate::visiting::visit_each;
 use vg_fork::Fork;
+use vg_frame::BufferMemory;
 use vg_model::{DropError, Kind, Step};
 use vg_pool::Buffer;
 
@@ -36,13 +39,9 @@ impl KindSet for Ip4Kinds {
             Kind::Ip4Lookup => ip4_lookup(fork, buffer),
             Kind::Ip4Rewrite => ip4_rewrite(fork, buffer),
             Kind::InterfaceOutput => interface_output(fork, buffer),
-            Kind::InterfaceTx => Step::Tx {
-                interface: transmit_interface(fork, buffer),
-            },
+            Kind::InterfaceTx => interface_tx(fork, buffer),
             Kind::Pass => NEXT,
-            Kind::WorkerHandoff(kind) => Step::Hand {
-                hash: hash_of(kind, buffer),
-            },
+            Kind::WorkerHandoff(kind) => worker_handoff(kind, buffer),
             Kind::ErrorDrop | Kind::PgInput | Kind::HandoffDequeue => dropped(DropError::Blackhole),
             // What other sets of kinds visit.
             Kind::EthernetDual
@@ -53,6 +52,43 @@ impl KindSet for Ip4Kinds {
             | Kind::Dot1qPush(_)
             | Kind::Dot1qRewrite(_)
             | Kind::CrossConnect(_) => dropped(DropError::Blackhole),
+        }
+    }
+
+    // A loop for each kind that packets are forwarded by, with its visit in line; all others share one.
+    fn visit_all(
+        &self,
+        kind: Kind,
+        fork: &Fork,
+        node: u16,
+        indexes: &[u32],
+        memory: &mut BufferMemory,
+        out: &mut Sorted,
+    ) {
+        know_interfaces(fork);
+        match kind {
+            Kind::EthernetInput => visit_each(indexes, memory, out, |buffer| {
+                ethernet_input(fork, buffer)
+            }),
+            Kind::Ip4Input => visit_each(indexes, memory, out, |buffer| { ip4_input(buffer) }),
+            Kind::Ip4Lookup => visit_each(indexes, memory, out, |buffer| {
+                ip4_lookup(fork, buffer)
+            }),
+            Kind::Ip4Rewrite => visit_each(indexes, memory, out, |buffer| {
+                ip4_rewrite(fork, buffer)
+            }),
+            Kind::InterfaceOutput => visit_each(indexes, memory, out, |buffer| {
+                interface_output(fork, buffer)
+            }),
+            Kind::InterfaceTx => visit_each(indexes, memory, out, |buffer| {
+                interface_tx(fork, buffer)
+            }),
+            Kind::WorkerHandoff(kind) => visit_each(indexes, memory, out, |buffer| {
+                worker_handoff(kind, buffer)
+            }),
+            _ => visit_each(indexes, memory, out, |buffer| {
+                self.visit_at(kind, fork, node, buffer)
+            }),
         }
     }
 

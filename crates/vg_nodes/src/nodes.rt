@@ -5,3 +5,4 @@ pub(crate) mod ip4_input;
 pub(crate) mod ip4_lookup;
 pub(crate) mod ip4_rewrite;
 pub(crate) mod steps;
+pub(crate) mod worker_handoff;

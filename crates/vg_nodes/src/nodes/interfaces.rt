@@ -43,3 +43,14 @@ pub(crate) fn interface_output(fork: &Fork, buffer: &Buffer) -> Step
         dropped(DropError::InterfaceDown)
     }
 }
+
+// Transmits.
+#[inline(always)]
+pub(crate) fn interface_tx(fork: &Fork, buffer: &Buffer) -> Step
+    requires { 1 ≤ length fork.now.graph.interfaces }
+    ensures { (result, buffer.now.packet) ≡ visits.interface_tx fork.now.graph buffer.now.packet }
+{
+    Step::Tx {
+        interface: transmit_interface(fork, buffer),
+    }
+}

@@ -1,0 +1,36 @@
+//! The visits of a frame's packets, one after the other.
+ghost use Rattle.std.specs.Prelude.{◌≡◌, ◌≤◌, length, nat_eq};
+ghost use Rattle.std.specs.List.{AllByRecursion, IsDistinct};
+ghost use Rattle.vg_frame.specs.Pending.{frame_size};
+ghost use Rattle.vg_frame.specs.Placed.{IsLive};
+ghost use Rattle.vg_nodes.specs.Sorting.{nothing_sorted};
+ghost use Rattle.vg_nodes.specs.Dispatch.{NodeVisit, IsMeaningOf, IsSortedBy, IsVisitedBy};
+
+use crate::sorted::Sorted;
+use vg_frame::BufferMemory;
+use vg_model::Step;
+use vg_pool::Buffer;
+
+/// Makes this visit of the packet of each index, in order, and puts the index into the list that the step names: whatever the visit is known to
+/// make of a packet, it has made of each of them.
+///
+/// It is compiled anew for each visit, which stands in line in its loop.
+pub fn visit_each<F: Fn(&mut Buffer) -> Step>(
+    indexes: &[u32],
+    memory: &mut BufferMemory,
+    out: &mut Sorted,
+    visit: F,
+)
+    requires callable { F.IsAlwaysCallable visit }
+    requires few { length indexes.now ≤ frame_size }
+    requires live { AllByRecursion (IsLive memory.old) indexes.now }
+    requires distinct { IsDistinct nat_eq indexes.now }
+    requires empty { out.old ≡ nothing_sorted }
+    ensures sorted { (meaning : NodeVisit) → IsMeaningOf (F.post visit) meaning → IsSortedBy meaning memory.old indexes.now out.new }
+    ensures visited { (meaning : NodeVisit) → IsMeaningOf (F.post visit) meaning → IsVisitedBy meaning indexes.now memory.old memory.new }
+{
+    for index in indexes {
+        let step = visit(memory.get_mut(*index));
+        out.put(*index, step);
+    }
+}
