@@ -7,8 +7,9 @@ use crate::nodes::dot1q_match::dot1q_match;
 use crate::nodes::dot1q_push::dot1q_push;
 use crate::nodes::dot1q_rewrite::dot1q_rewrite;
 use vg_fork::Fork;
+use vg_frame::BufferMemory;
 use vg_model::{Kind, Step};
-use vg_nodes::KindSet;
+use vg_nodes::{KindSet, Sorted, visit_each};
 use vg_pool::Buffer;
 
 /// The kinds that take tags off, put them on and renumber them, and cross-connects. A node of any other kind is visited by the set in it.
@@ -32,6 +33,33 @@ impl<K: KindSet> KindSet for Dot1qKinds<K> {
             Kind::Dot1qRewrite(id) => dot1q_rewrite(id, buffer),
             Kind::CrossConnect(interface) => cross_connect(interface, fork, buffer),
             _ => self.0.visit_at(kind, fork, node, buffer),
+        }
+    }
+
+    // A loop for each kind, with its visit in line.
+    fn visit_all(
+        &self,
+        kind: Kind,
+        fork: &Fork,
+        node: u16,
+        indexes: &[u32],
+        memory: &mut BufferMemory,
+        out: &mut Sorted,
+    ) {
+        match kind {
+            Kind::Dot1qMatch(id) => visit_each(indexes, memory, out, |buffer| {
+                dot1q_match(id, buffer)
+            }),
+            Kind::Dot1qPush(id) => visit_each(indexes, memory, out, |buffer| {
+                dot1q_push(id, buffer)
+            }),
+            Kind::Dot1qRewrite(id) => visit_each(indexes, memory, out, |buffer| {
+                dot1q_rewrite(id, buffer)
+            }),
+            Kind::CrossConnect(interface) => visit_each(indexes, memory, out, |buffer| {
+                cross_connect(interface, fork, buffer)
+            }),
+            _ => self.0.visit_all(kind, fork, node, indexes, memory, out),
         }
     }
 
