@@ -24,8 +24,7 @@ impl<K: KindSet> KindSet for Dot1qKinds<K> {
         self.visit_at(fork.kind(node), fork, node, buffer)
     }
 
-    // One call for each packet and node.
-    #[inline(always)]
+    #[inline]
     fn visit_at(&self, kind: Kind, fork: &Fork, node: u16, buffer: &mut Buffer) -> Step {
         match kind {
             Kind::Dot1qMatch(id) => dot1q_match(id, buffer),

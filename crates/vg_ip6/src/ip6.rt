@@ -25,8 +25,7 @@ impl<K: KindSet> KindSet for Ip6Kinds<K> {
         self.visit_at(fork.kind(node), fork, node, buffer)
     }
 
-    // One call for each packet and node.
-    #[inline(always)]
+    #[inline]
     fn visit_at(&self, kind: Kind, fork: &Fork, node: u16, buffer: &mut Buffer) -> Step {
         know_interfaces(fork);
         match kind {
@@ -53,7 +52,7 @@ impl<K: KindSet> KindSet for Ip6Kinds<K> {
             Kind::EthernetDual => visit_each(indexes, memory, out, |buffer| {
                 ethernet_dual(fork, buffer)
             }),
-            Kind::Ip6Input => visit_each(indexes, memory, out, |buffer| { ip6_input(buffer) }),
+            Kind::Ip6Input => visit_each(indexes, memory, out, |buffer| ip6_input(buffer)),
             Kind::Ip6Lookup => visit_each(indexes, memory, out, |buffer| {
                 ip6_lookup(fork, buffer)
             }),

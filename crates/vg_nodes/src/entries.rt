@@ -57,6 +57,7 @@ impl<T: Copy + Drop> Entries<T> {
     }
 
     /// Adds an entry behind the others.
+    #[inline]
     pub fn push(&mut self, index: u32, value: T)
         requires { length self.old < frame_size }
         ensures { self.new ≡ self.old ++ (index, value) ∷ [] }

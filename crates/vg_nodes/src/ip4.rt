@@ -29,8 +29,7 @@ impl KindSet for Ip4Kinds {
         self.visit_at(fork.kind(node), fork, node, buffer)
     }
 
-    // In line, and so are the visits: a step goes to its list without being made.
-    #[inline(always)]
+    #[inline]
     fn visit_at(&self, kind: Kind, fork: &Fork, _node: u16, buffer: &mut Buffer) -> Step {
         know_interfaces(fork);
         match kind {
@@ -70,7 +69,7 @@ impl KindSet for Ip4Kinds {
             Kind::EthernetInput => visit_each(indexes, memory, out, |buffer| {
                 ethernet_input(fork, buffer)
             }),
-            Kind::Ip4Input => visit_each(indexes, memory, out, |buffer| { ip4_input(buffer) }),
+            Kind::Ip4Input => visit_each(indexes, memory, out, |buffer| ip4_input(buffer)),
             Kind::Ip4Lookup => visit_each(indexes, memory, out, |buffer| {
                 ip4_lookup(fork, buffer)
             }),

@@ -11,10 +11,10 @@ use vg_frame::BufferMemory;
 use vg_model::Step;
 use vg_pool::Buffer;
 
-/// Makes this visit of the packet of each index, in order, and puts the index into the list that the step names: whatever the visit is known to
-/// make of a packet, it has made of each of them.
+/// Visits the packet of each index in order, and puts the index into the list that the step names. Whatever the visit is known to make of
+/// a packet, it has made of each of them.
 ///
-/// It is compiled anew for each visit, which stands in line in its loop.
+/// It is compiled for each visit by itself, so that a loop has its visit in line.
 pub fn visit_each<F: Fn(&mut Buffer) -> Step>(
     indexes: &[u32],
     memory: &mut BufferMemory,

@@ -8,6 +8,7 @@ use vg_nodes::parts::{NEXT, dropped};
 use vg_pool::Buffer;
 
 // Sends what comes out on this interface, where the graph has it.
+#[inline(always)]
 pub(crate) fn cross_connect(interface: u8, fork: &Fork, buffer: &mut Buffer) -> Step
     ensures visited { (result, buffer.new.packet) ≡ visits.cross_connect interface fork.now.graph buffer.old.packet }
     ensures legs { buffer.new.legs ≡ buffer.old.legs }

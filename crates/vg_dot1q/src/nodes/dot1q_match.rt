@@ -17,6 +17,7 @@ const MATCH: Step = Step::Next { slot: 0 };
 const ELSE: Step = Step::Next { slot: 1 };
 
 // Takes the tag of this VLAN off.
+#[inline(always)]
 pub(crate) fn dot1q_match(id: VlanId, buffer: &mut Buffer) -> Step
     ensures visited { (result, buffer.new.packet) ≡ visits.dot1q_match id.number buffer.old.packet }
     ensures legs { buffer.new.legs ≡ buffer.old.legs }

@@ -10,6 +10,7 @@ use vg_pool::Buffer;
 const TAG_LEN: u32 = 4;
 
 // Puts a tag of this VLAN on.
+#[inline(always)]
 pub(crate) fn dot1q_push(id: VlanId, buffer: &mut Buffer) -> Step
     ensures visited { (result, buffer.new.packet) ≡ visits.dot1q_push id.number buffer.old.packet }
     ensures legs { buffer.new.legs ≡ buffer.old.legs }

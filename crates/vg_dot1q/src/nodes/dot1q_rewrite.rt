@@ -8,6 +8,7 @@ use vg_nodes::parts::{NEXT, dropped};
 use vg_pool::Buffer;
 
 // Gives the tag this VLAN id.
+#[inline(always)]
 pub(crate) fn dot1q_rewrite(id: VlanId, buffer: &mut Buffer) -> Step
     ensures visited { (result, buffer.new.packet) ≡ visits.dot1q_rewrite id.number buffer.old.packet }
     ensures legs { buffer.new.legs ≡ buffer.old.legs }

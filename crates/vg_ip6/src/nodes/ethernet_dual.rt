@@ -18,6 +18,7 @@ const IP4: Step = Step::Next { slot: 0 };
 const IP6: Step = Step::Next { slot: 1 };
 
 // Checks the Ethernet header, and parts IPv4 from IPv6.
+#[inline(always)]
 pub(crate) fn ethernet_dual(fork: &Fork, buffer: &Buffer) -> Step
     requires { 1 ≤ length fork.now.graph.interfaces }
     ensures { (result, buffer.now.packet) ≡ visits.ethernet_dual fork.now.graph buffer.now.packet }

@@ -9,6 +9,7 @@ use vg_nodes::parts::{NEXT, dropped};
 use vg_pool::Buffer;
 
 // Checks the IPv6 header.
+#[inline(always)]
 pub(crate) fn ip6_input(buffer: &Buffer) -> Step
     ensures { (result, buffer.now.packet) ≡ visits.ip6_input buffer.now.packet }
 {

@@ -12,6 +12,7 @@ use vg_nodes::parts::{NEXT, dropped};
 use vg_pool::Buffer;
 
 // Chooses the route of the longest prefix that covers the destination, and of its adjacencies the one that the flow's hash picks.
+#[inline(always)]
 pub(crate) fn ip6_lookup(fork: &Fork, buffer: &mut Buffer) -> Step
     ensures visited { (result, buffer.new.packet) ≡ visits.ip6_lookup fork.now.graph buffer.old.packet }
     ensures legs { buffer.new.legs ≡ buffer.old.legs }
@@ -35,6 +36,7 @@ pub(crate) fn ip6_lookup(fork: &Fork, buffer: &mut Buffer) -> Step
 }
 
 // The adjacency that the hash of the packet's flow picks. The hash is computed where there is more than one.
+#[inline]
 fn picked(members: &Members, buffer: &Buffer) -> u16
     requires { headers.lacks_header (datagram buffer.now.packet) ≡ false }
     ensures { result ≡ member members.now (headers.flow_hash6 (datagram buffer.now.packet)) }

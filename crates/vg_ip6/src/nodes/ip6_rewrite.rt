@@ -16,6 +16,7 @@ use vg_packet::headers::ETHERNET_LEN;
 use vg_pool::Buffer;
 
 // Makes the frame ready for the next hop.
+#[inline(always)]
 pub(crate) fn ip6_rewrite(fork: &Fork, buffer: &mut Buffer) -> Step
     ensures visited { (result, buffer.new.packet) ≡ visits.ip6_rewrite fork.now.graph buffer.old.packet }
     ensures legs { buffer.new.legs ≡ buffer.old.legs }
@@ -31,6 +32,7 @@ pub(crate) fn ip6_rewrite(fork: &Fork, buffer: &mut Buffer) -> Step
 }
 
 // Makes the frame ready for this neighbor, where its hop limit and its length allow it.
+#[inline(always)]
 fn send_over(fork: &Fork, adjacency: &Adjacency, buffer: &mut Buffer) -> Step
     requires interface { adjacency.now.interface < length fork.now.graph.interfaces }
     requires mac { IsMac adjacency.now.mac }
@@ -55,6 +57,7 @@ fn send_over(fork: &Fork, adjacency: &Adjacency, buffer: &mut Buffer) -> Step
 }
 
 // Writes the Ethernet header to a neighbor, and this hop limit.
+#[inline(always)]
 fn rewrite(buffer: &mut Buffer, adjacency: &Adjacency, interface: &Interface, hops: u8)
     requires neighbor { IsMac adjacency.now.mac }
     requires own { IsMac interface.now.mac }

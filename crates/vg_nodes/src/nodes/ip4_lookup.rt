@@ -36,6 +36,7 @@ pub(crate) fn ip4_lookup(fork: &Fork, buffer: &mut Buffer) -> Step
 }
 
 // The adjacency that the hash of a packet's flow picks. The hash is computed where there is more than one.
+#[inline]
 fn picked(members: &Members, buffer: &Buffer) -> u16
     ensures { result ≡ member members.now (hash_of_flow Flow buffer.now.packet.bytes) }
 {

@@ -31,6 +31,7 @@ pub(crate) fn ip4_rewrite(fork: &Fork, buffer: &mut Buffer) -> Step
 }
 
 /// The adjacency of this number, where the graph has it.
+#[inline]
 pub fn adjacency_of(fork: &Fork, number: Option<u16>) -> Option<&Adjacency>
     ensures adjacency { option_copied result ≡ option_and_then (slice_get fork.now.graph.adjacencies) number }
     ensures interface { IfSome result (λ a. a.now.interface < length fork.now.graph.interfaces) }
@@ -43,6 +44,7 @@ pub fn adjacency_of(fork: &Fork, number: Option<u16>) -> Option<&Adjacency>
 }
 
 // Makes the frame ready for this neighbor, where its time to live and its length allow it.
+#[inline(always)]
 fn send_over(fork: &Fork, adjacency: &Adjacency, buffer: &mut Buffer) -> Step
     requires interface { adjacency.now.interface < length fork.now.graph.interfaces }
     requires mac { IsMac adjacency.now.mac }
@@ -67,6 +69,7 @@ fn send_over(fork: &Fork, adjacency: &Adjacency, buffer: &mut Buffer) -> Step
 }
 
 // Writes the Ethernet header to a neighbor, and lowers the time to live (RFC 1812, section 5.3.1).
+#[inline(always)]
 fn rewrite(buffer: &mut Buffer, adjacency: &Adjacency, interface: &Interface)
     requires neighbor { IsMac adjacency.now.mac }
     requires own { IsMac interface.now.mac }
@@ -82,6 +85,7 @@ fn rewrite(buffer: &mut Buffer, adjacency: &Adjacency, interface: &Interface)
 }
 
 // Lowers the time to live of the IPv4 header. No more than the bytes that change are written, at once with the one between them.
+#[inline(always)]
 fn lower_header(buffer: &mut Buffer)
     requires passes { Passes buffer.old.packet }
     requires sound { let d = visits.datagram buffer.old.packet in

@@ -7,6 +7,7 @@ use vg_model::{DropError, Step};
 pub const NEXT: Step = Step::Next { slot: 0 };
 
 /// The step of a drop with this error.
+#[inline]
 pub fn dropped(error: DropError) -> Step
     ensures { result ≡ Step.Dropped error }
 {
