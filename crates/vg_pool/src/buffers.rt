@@ -66,6 +66,7 @@ impl Buffer {
 
     /// Makes it the packet of this number and these bytes, as it is received: with no mark, no adjacency, no interface and no legs. A
     /// packet of more than [`LONGEST_PACKET`] bytes keeps its number alone.
+    #[inline(always)]
     pub fn fill(&mut self, number: u32, bytes: &[u8])
         requires { length bytes.now ≤ longest_packet → pieces_of (length bytes.now) ≤ self.old.pieces }
         ensures { self.new ≡ received self.old.pieces number bytes.now }
@@ -76,6 +77,7 @@ impl Buffer {
 
     /// Makes it the packet of this number, this room and these bytes, of a packet that lay in a chain before and was kept elsewhere: with no
     /// mark, no adjacency, no interface and no legs.
+    #[inline(always)]
     pub fn lay(&mut self, number: u32, room: u32, bytes: &[u8])
         requires room { room ≤ most_room }
         requires len { length bytes.now + room ≤ most_extent }
@@ -272,6 +274,7 @@ impl Buffer {
     }
 
     // One more buffer in the chain, which has no packet.
+    #[inline(never)]
     pub(crate) fn lengthen(&mut self, spare: Spare)
         requires few { self.old.pieces < most_pieces }
         requires empty { self.old ≡ nothing self.old.pieces }

@@ -81,6 +81,7 @@ impl<T: Ledger, G: Ledger> Cache<T, G> {
 
     /// An empty chain for a packet of so many bytes: as many buffers as it takes, or one where it has more than [`LONGEST_PACKET`],
     /// since such a packet keeps none. `None` exactly where the cache has fewer.
+    #[inline(always)]
     pub fn alloc(&mut self, bytes: u32) -> Option<Buffer>
         requires { self.old.allocated < 2 ^ 62 }
         ensures { let pieces = pieces_of bytes in MatchOption result
@@ -98,6 +99,7 @@ impl<T: Ledger, G: Ledger> Cache<T, G> {
     }
 
     /// Takes the buffers of a chain in. What it carried is forgotten as they are given out again.
+    #[inline(always)]
     pub fn free(&mut self, buffer: Buffer)
         requires room { self.old.len + buffer.pieces ≤ most_cached }
         requires count { self.old.freed < 2 ^ 62 }

@@ -60,6 +60,7 @@ impl Parts {
     }
 
     /// How many buffers there are.
+    #[inline]
     pub(crate) fn len(&self) -> u32
         requires { length self.now < 2 ^ 32 }
         ensures { result ≡ length self.now }

@@ -86,7 +86,7 @@ impl Work {
     }
 
     // Logs the end of a packet, and counts it. A drop at another node brings a visit of `error-drop`.
-    #[inline]
+    #[inline(always)]
     fn log(&mut self, number: u32, legs: &[Leg], congested: Option<u64>, end: End)
         requires legs { (1 ≤ length legs.now) × (length legs.now ≤ 4) }
         requires room { length self.old.fates.items < self.old.fates.room }
@@ -113,7 +113,7 @@ impl Work {
     }
 
     // Keeps the bytes of a packet that is transmitted.
-    #[inline]
+    #[inline(always)]
     fn keep(&mut self, packet: &Buffer)
         requires entries { vec_len self.old.entries < vec_capacity self.old.entries }
         requires bytes { vec_len self.old.bytes + length packet.now.packet.bytes ≤ vec_capacity self.old.bytes }
@@ -137,7 +137,7 @@ impl Work {
     }
 
     // Takes the packet of an index out, whose leg is over, and gives its buffers back.
-    #[inline]
+    #[inline(always)]
     fn finish<T: Ledger, G: Ledger>(&mut self, index: u32, end: End, cache: &mut Cache<T, G>)
         requires { CanFinish index end self.old cache.old }
         ensures finished { Finishes index end self.old self.new }
