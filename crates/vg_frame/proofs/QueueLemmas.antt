@@ -1,8 +1,9 @@
--- For `Queue::{is_empty, push, push_each, pop}`: what full frames, with the newest indexes behind them, make of the list of indexes.
+-- For `Frame::push_each` and `Queue::{is_empty, room, push, push_within, push_each, pop}`: what full frames, with the newest indexes behind them, make
+-- of the list of indexes.
 use Rattle.std.proofs.Common.{◌≡◌, ℕ, suc, ◌+◌, ◌*◌, ◌<◌, ◌≤◌, List, [], ◌∷◌, ◌++◌, length, map, get_or, take, drop, remove, refl, sym, ap, ◌∙◌, arith, append_assoc, length-append}
 use Rattle.std.specs.List.{All, flat_map}
 use Rattle.std.proofs.Math.Seq.{take-append_seam, drop-append_seam}
-use Rattle.std.proofs.lemmas.List.{length-map, length-take-le, map-append, take_all, take_more, drop_all}
+use Rattle.std.proofs.lemmas.List.{append-nil, length-map, map-append, take_all, take_more, drop_all}
 use Rattle.std.proofs.lemmas.List.Elements.{All-push}
 use Rattle.std.proofs.lemmas.List.Concat.{flat_map-cons}
 use Rattle.vg_frame.specs.Pending.{frame_size}
@@ -24,6 +25,9 @@ module _ {X : Type 0} (f : X → List ℕ) where
       let head : length (f x) ≡ frame_size = full 0 x (omega arith) in
       let tail = length-flat_map-full xs (AllFull-tail x xs full) in
       rw (flat_map-cons f x xs, length-append) (omega arith)
+
+  pub waiting_len : (xs : List X) (newest : List ℕ) → AllFull xs → length (flat_map f xs ++ newest) ≡ frame_size * length xs + length newest
+  waiting_len xs newest full = let e = length-flat_map-full xs full in rw length-append (omega arith)
 
   pub is_cut : (xs : List X) (newest : List ℕ) → AllFull xs → frame_size * length xs ≤ length (flat_map f xs ++ newest)
   is_cut xs newest full = let e = length-flat_map-full xs full in rw length-append (omega arith)
@@ -63,18 +67,15 @@ module _ {X : Type 0} (f : X → List ℕ) where
   AllFull-rest [] full = full
   AllFull-rest (x ∷ xs) full = AllFull-tail x xs full
 
--- the indexes of the first entries
+-- the indexes of entries, and of the first so many
+abbrev pub all_firsts : {X : Type 0} → List (ℕ × X) → List ℕ
+all_firsts {X} entries = map (λ (entry : ℕ × X). entry.0) entries
+
 abbrev pub firsts : {X : Type 0} → ℕ → List (ℕ × X) → List ℕ
-firsts {X} k entries = map (λ (entry : ℕ × X). entry.0) (take k entries)
+firsts k entries = all_firsts (take k entries)
 
 firsts_more : {X : Type 0} (entries : List (ℕ × X)) (k : ℕ) (d : ℕ × X) → k < length entries → firsts (k + 1) entries ≡ firsts k entries ++ (get_or entries k d).0 ∷ []
 firsts_more {X} entries k d inside = ap (map (λ (entry : ℕ × X). entry.0)) (take_more entries k d inside) ∙ map-append (λ (entry : ℕ × X). entry.0) (take k entries) (get_or entries k d ∷ [])
-
--- how many wait once the first of the entries do
-pub first_len : {X : Type 0} (old now : List ℕ) (entries : List (ℕ × X)) (k : ℕ) → k ≤ length entries → now ≡ old ++ firsts k entries → length now ≡ length old + k
-first_len {X} old now entries k inside is =
-    ap length is ∙ length-append old (firsts k entries)
-    ∙ ap (λ n. length old + n) (length-map (take k entries) (λ (entry : ℕ × X). entry.0) ∙ length-take-le k entries inside)
 
 -- the next entry's index behind those of the first entries
 pub first_pushed : {X : Type 0} (old now new : List ℕ) (entries : List (ℕ × X)) (k : ℕ) (entry : ℕ × X) → k < length entries → entry ≡ get_or entries k entry
@@ -84,3 +85,25 @@ first_pushed old now new entries k entry inside here is pushed =
     ∙ (ap (λ xs. xs ++ entry.0 ∷ []) is
     ∙ (append_assoc old (firsts k entries) (entry.0 ∷ [])
     ∙ ap (λ xs. old ++ xs) (ap (λ e. firsts k entries ++ e.0 ∷ []) here ∙ sym (firsts_more entries k entry inside))))
+
+-- how many entries are left, where they make with what waits what they all make with what waited
+pub left_len : {X : Type 0} (old now : List ℕ) (entries left : List (ℕ × X)) → now ++ all_firsts left ≡ old ++ all_firsts entries → length now + length left ≡ length old + length entries
+left_len {X} old now entries left is =
+    let here = length-append now (all_firsts left) in
+    let there = length-append old (all_firsts entries) in
+    let few = length-map left (λ (entry : ℕ × X). entry.0) in
+    let all = length-map entries (λ (entry : ℕ × X). entry.0) in
+    let same = ap length is in
+    omega (arith, here, there, few, all, same)
+
+-- the first of them wait too
+pub left_pushed : {X : Type 0} (now new : List ℕ) (left front behind : List (ℕ × X)) → left ≡ front ++ behind → new ≡ now ++ all_firsts front → new ++ all_firsts behind ≡ now ++ all_firsts left
+left_pushed {X} now new left front behind parts pushed =
+    ap (λ xs. xs ++ all_firsts behind) pushed
+    ∙ (append_assoc now (all_firsts front) (all_firsts behind)
+    ∙ ap (λ xs. now ++ xs) (sym (map-append (λ (entry : ℕ × X). entry.0) front behind) ∙ ap (map (λ (entry : ℕ × X). entry.0)) (sym parts)))
+
+-- none is left
+pub left_none : {X : Type 0} (now all : List ℕ) (left : List (ℕ × X)) → length left ≡ 0 → now ++ all_firsts left ≡ all → now ≡ all
+left_none now all [] none is = sym (append-nil now) ∙ is
+left_none now all (entry ∷ left) none is = absurd (omega (arith, none))

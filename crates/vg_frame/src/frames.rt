@@ -1,25 +1,26 @@
 //! Frames.
-ghost use Rattle.std.specs.Prelude.{◌≡◌, ◌<◌, ◌≤◌, [], ◌∷◌, ◌++◌, length};
+ghost use Rattle.std.specs.Prelude.{◌≡◌, ◌+◌, ◌<◌, ◌≤◌, [], ◌∷◌, ◌++◌, length, map};
 ghost use Rattle.vg_frame.specs.Pending.{frame_size};
 
-use arrayvec::ArrayVec;
 use std::marker::Model;
 use vg_model::limits::FRAME_SIZE;
 
 /// A frame: a list of at most [`FRAME_SIZE`] buffer indexes.
 #[derive(Drop)]
 pub struct Frame {
-    indexes: ArrayVec<u32, FRAME_SIZE>,
+    len: usize,
+    // The indexes stand in front; what is behind them has no meaning.
+    places: [u32; FRAME_SIZE],
 }
 
 impl Model for Frame {
-    ghost use Rattle.std.specs.Prelude.{List, ℕ, length, ◌≤◌};
+    ghost use Rattle.std.specs.Prelude.{List, ℕ, take, ◌≤◌};
 
     ghost Value = { List ℕ };
 
-    ghost view = { λ f. f.indexes.items };
+    ghost view = { λ f. take f.len f.places };
 
-    ghost invariant = { λ f. length f.indexes.items ≤ 256 };
+    ghost invariant = { λ f. f.len ≤ 256 };
 }
 
 impl Frame {
@@ -28,7 +29,8 @@ impl Frame {
         ensures { result ≡ [] }
     {
         Frame {
-            indexes: ArrayVec::new(),
+            len: 0,
+            places: [0; FRAME_SIZE],
         }
     }
 
@@ -37,7 +39,7 @@ impl Frame {
         ensures count { result ≡ length self.now }
         ensures few { length self.now ≤ frame_size }
     {
-        self.indexes.len()
+        self.len
     }
 
     /// The indexes, in order.
@@ -45,7 +47,7 @@ impl Frame {
         ensures indexes { result.now ≡ self.now }
         ensures few { length result.now ≤ frame_size }
     {
-        self.indexes.as_slice()
+        &self.places[..self.len]
     }
 
     /// Adds an index behind the others.
@@ -53,6 +55,34 @@ impl Frame {
         requires { length self.old < frame_size }
         ensures { self.new ≡ self.old ++ index ∷ [] }
     {
-        self.indexes.push(index);
+        self.places[self.len] = index;
+        self.len += 1;
+    }
+
+    /// Adds the indexes of these entries behind the others, in their order.
+    #[inline]
+    pub(crate) fn push_each<T: Copy>(&mut self, entries: &[(u32, T)])
+        requires { length self.old + length entries.now ≤ frame_size }
+        ensures { self.new ≡ self.old ++ map (λ entry. entry.0) entries.now }
+    {
+        let mut at = self.len;
+        for (index, _) in entries {
+            self.places[at] = *index;
+            at += 1;
+        }
+        self.len = at;
+    }
+
+    /// Takes all indexes out.
+    pub(crate) fn take(&mut self) -> Frame
+        ensures frame { result ≡ self.old }
+        ensures empty { self.new ≡ [] }
+    {
+        let taken = Frame {
+            len: self.len,
+            places: self.places,
+        };
+        self.len = 0;
+        taken
     }
 }

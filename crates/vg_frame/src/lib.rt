@@ -6,9 +6,9 @@
 //!
 //! What calls cost: all memory is taken by [`BufferMemory::new`] and [`FrameStore::new`]. [`BufferMemory::place`],
 //! [`BufferMemory::lift`] and [`BufferMemory::get_mut`] move or lend one pointer. [`FrameStore::put`] writes one index, and with the
-//! 256th of a frame moves two pointers; [`FrameStore::put_each`] does the same for each of a list. [`FrameStore::next_frame`] finds the
-//! lowest node that has a frame by one look at a word with
-//! a bit for each node, moves up to nine pointers and copies the frame out. None of them looks through nodes, frames or indexes.
+//! 256th of a frame moves two pointers; [`FrameStore::put_each`] writes those of a list, at once as many as a frame has room for.
+//! [`FrameStore::next_frame`] finds the lowest node that has a frame by one look at a word with a bit for each node, moves up to nine
+//! pointers and copies the frame out. None of them looks through nodes, frames or indexes.
 //!
 //! In which order to read: `frames`, `store` with `queues`, `spares` and `node_set`; then `memory`.
 #![tactic(auto)]

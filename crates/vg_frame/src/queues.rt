@@ -69,6 +69,32 @@ impl Queue {
         }
     }
 
+    /// How many more indexes the newest frame has room for: some, since it isn't full.
+    fn room(&self) -> usize
+        ensures some { 1 ≤ result }
+        ensures room { result + length self.now.indexes ≡ frame_size * (self.now.full + 1) }
+    {
+        FRAME_SIZE - self.newest.len()
+    }
+
+    /// The indexes of these entries, for which the newest frame has room, wait behind the others, in their order. Where that makes the
+    /// frame full, a spare one comes behind it.
+    #[inline]
+    fn push_within<T: Copy>(&mut self, entries: &[(u32, T)], spares: &mut Spares)
+        requires within { length self.old.indexes + length entries.now ≤ frame_size * (self.old.full + 1) }
+        requires room { self.old.full < most_full }
+        requires spare { 0 < spares.old }
+        ensures indexes { self.new.indexes ≡ self.old.indexes ++ map (λ entry. entry.0) entries.now }
+        ensures frames { spares.new + self.new.full ≡ spares.old + self.old.full }
+        ensures cut { IsCut self.new }
+    {
+        self.newest.push_each(entries);
+        if self.newest.len() >= FRAME_SIZE {
+            let full = mem::replace(&mut self.newest, spares.take());
+            self.full.push_reserved(full);
+        }
+    }
+
     /// The indexes of these entries wait behind the others, in their order. Behind each frame that gets full comes a spare one.
     #[inline]
     pub fn push_each<T: Copy>(&mut self, entries: &[(u32, T)], spares: &mut Spares)
@@ -79,8 +105,11 @@ impl Queue {
         ensures frames { spares.new + self.new.full ≡ spares.old + self.old.full }
         ensures cut { IsCut self.new }
     {
-        for (index, _) in entries {
-            self.push(*index, spares);
+        let mut left = entries;
+        'left: while !left.is_empty() {
+            let (front, behind) = left.split_at(left.len().min(self.room()));
+            self.push_within(front, spares);
+            left = behind;
         }
     }
 
@@ -93,7 +122,7 @@ impl Queue {
         ensures cut { IsCut self.new }
     {
         if self.full.is_empty() {
-            return mem::replace(&mut *self.newest, Frame::new());
+            return self.newest.take();
         }
         let oldest = self.full.remove(0);
         spares.empty(oldest)

@@ -6,7 +6,6 @@ use crate::frames::Frame;
 use crate::store::FRAMES;
 use std::alloc::{AllocError, Global};
 use std::marker::Model;
-use std::mem;
 
 /// The frames of a store that no node has, all empty.
 #[derive(Drop)]
@@ -56,7 +55,7 @@ impl Spares {
         ensures frame { result ≡ frame.value }
         ensures count { self.new ≡ self.old + 1 }
     {
-        let indexes = mem::replace(&mut *frame, Frame::new());
+        let indexes = frame.take();
         self.frames.push_reserved(frame);
         indexes
     }

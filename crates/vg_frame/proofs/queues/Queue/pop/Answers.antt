@@ -10,14 +10,14 @@ returns-then-is_empty-clause-frame c =
     let q = c.self.inside in
     let none_full = eqb-true _ 0 (sym c.is_empty.ensures ∙ c.if-is_empty.true) in
     let none : length q.full.items ≡ 0 = omega arith in
-    rw (← c.self.view_is) (c.replace.ensures.value ∙ c.deref_mut.ensures.value ∙ take_newest _ q.full.items q.newest.value none c.self.invariant.few)
+    rw (← c.self.view_is) (c.take.ensures.frame ∙ c.deref_mut.ensures.value ∙ take_newest _ q.full.items q.newest.value none c.self.invariant.few)
 
 pub returns-then-is_empty-clause-rest : goal.returns-then-is_empty-clause-rest
 returns-then-is_empty-clause-rest c =
     let q = c.self.inside in
     let none_full = eqb-true _ 0 (sym c.is_empty.ensures ∙ c.if-is_empty.true) in
     let none : length q.full.items ≡ 0 = omega arith in
-    rw (← c.self.view_is, c.replace.ensures.after, c.new.ensures) (drop_newest _ q.full.items q.newest.value none c.self.invariant.few)
+    rw (← c.self.view_is, c.take.ensures.empty) (drop_newest _ q.full.items q.newest.value none c.self.invariant.few)
 
 pub returns-clause-frame : goal.returns-clause-frame
 returns-clause-frame c =

@@ -1,36 +1,43 @@
-use Rattle.std.proofs.Common.{◌≡◌, ◌+◌, ◌++◌, length, map, sym, refl, ap, ◌∙◌, arith}
-use Rattle.std.proofs.lemmas.List.{append-nil, take_all}
-use Rattle.vg_frame.proofs.QueueLemmas.{firsts, first_pushed, first_len}
+use Rattle.std.proofs.Common.{◌≡◌, ◌<◌, ◌++◌, length, refl, ◌∙◌, arith}
+use Rattle.std.proofs.lemmas.Grind.{common_steps}
+use Rattle.vg_frame.proofs.QueueLemmas.{all_firsts, left_len, left_pushed, left_none}
 use Rattle.vg_frame.proofs.queues.Queue.push_each.Goals as goal
 
-pub loop-index-init : goal.loop-index-init
-loop-index-init g c = record { indexes = sym (append-nil c.args.self.now.indexes); frames = refl; cut = c.requires.cut }
+pub left-init : goal.left-init
+left-init g c = record { indexes = refl; frames = refl; cut = c.requires.cut }
 
-pub push-requires-clause-room : goal.push-requires-clause-room
-push-requires-clause-room g c =
-    let i = c.loop-index.invariant in
-    let inside = c.loop-index-test.true in
-    let long = first_len c.args.self.now.indexes c.loop-index.self.indexes c.args.entries.now c.loop-index.index-index (omega (arith, inside)) i.indexes in
-    omega (arith, long, inside, i.cut, c.requires.room)
+pub push_within-requires-clause-within : goal.push_within-requires-clause-within
+push_within-requires-clause-within g c = omega (arith, c.room.ensures.room, c.split_at.ensures.front_len, c.min.ensures)
 
-pub push-requires-clause-spare : goal.push-requires-clause-spare
-push-requires-clause-spare g c =
-    let i = c.loop-index.invariant in
-    let inside = c.loop-index-test.true in
-    let long = first_len c.args.self.now.indexes c.loop-index.self.indexes c.args.entries.now c.loop-index.index-index (omega (arith, inside)) i.indexes in
-    omega (arith, long, inside, i.cut, i.frames, c.requires.spare)
+pub push_within-requires-clause-room : goal.push_within-requires-clause-room
+push_within-requires-clause-room g c =
+    let i = c.left.invariant in
+    let long = left_len c.args.self.now.indexes c.left.self.indexes c.args.entries.now c.left.left.now i.indexes in
+    let some : 0 < length c.left.left.now = grind (arith, common_steps, c.is_empty.ensures, c.left-test.true) in
+    omega (arith, long, some, i.cut, c.requires.room)
 
-pub loop-index-preserved : goal.loop-index-preserved
-loop-index-preserved g c =
-    let i = c.loop-index.invariant in
+pub push_within-requires-clause-spare : goal.push_within-requires-clause-spare
+push_within-requires-clause-spare g c =
+    let i = c.left.invariant in
+    let long = left_len c.args.self.now.indexes c.left.self.indexes c.args.entries.now c.left.left.now i.indexes in
+    let some : 0 < length c.left.left.now = grind (arith, common_steps, c.is_empty.ensures, c.left-test.true) in
+    omega (arith, long, some, i.cut, i.frames, c.requires.spare)
+
+pub left-preserved : goal.left-preserved
+left-preserved g c =
+    let i = c.left.invariant in
     record {
-      indexes = first_pushed c.args.self.now.indexes c.loop-index.self.indexes c.push.new.self.indexes c.args.entries.now c.loop-index.index-index c.loop-index-item.result
-          c.loop-index-test.true c.loop-index-item.is i.indexes c.push.ensures.indexes;
-      frames = c.push.ensures.frames ∙ i.frames;
-      cut = c.push.ensures.cut;
+      indexes = left_pushed c.left.self.indexes c.push_within.new.self.indexes c.left.left.now c.split_at.result.0.now c.split_at.result.1.now c.split_at.ensures.by_index.0 c.push_within.ensures.indexes ∙ i.indexes;
+      frames = c.push_within.ensures.frames ∙ i.frames;
+      cut = c.push_within.ensures.cut;
     }
+
+pub left-smaller : goal.left-smaller
+left-smaller g c =
+    let some : 0 < length c.left.left.now = grind (arith, common_steps, c.is_empty.ensures, c.left-test.true) in
+    omega (arith, some, c.room.ensures.some, c.split_at.ensures.back_len, c.min.ensures)
 
 pub returns-clause-indexes : goal.returns-clause-indexes
 returns-clause-indexes g c =
-    c.loop-index.invariant.indexes
-    ∙ ap (λ xs. c.args.self.now.indexes ++ map (λ entry. entry.0) xs) (take_all c.loop-index.index-index c.args.entries.now c.loop-index-test.false)
+    let none : length c.left.left.now ≡ 0 = grind (arith, common_steps, c.is_empty.ensures, c.left-test.false) in
+    left_none c.left.self.indexes (c.args.self.now.indexes ++ all_firsts c.args.entries.now) c.left.left.now none c.left.invariant.indexes

@@ -1,11 +1,15 @@
-use Rattle.std.proofs.Common.{◌≡◌, ◌+◌, ◌++◌, map, take}
+use Rattle.std.proofs.Common.{◌≡◌, ◌+◌, ◌++◌, length}
 use Rattle.vg_frame.specs.Waiting.{IsCut}
+use Rattle.vg_frame.proofs.QueueLemmas.{all_firsts}
 use Rattle.vg_frame.proofs.queues.Queue.push_each.Given as goal
 
--- the first indexes wait behind those that did
-abbrev pub invariant-loop-index : goal.invariant-loop-index
-invariant-loop-index g l = record {
-  indexes : l.self.indexes ≡ l.initial.self.indexes ++ map (λ entry. entry.0) (take l.index-index l.entries);
-  frames : l.spares + l.self.full ≡ l.initial.spares + l.initial.self.full;
+-- what waits makes with the entries that are left what all of them make with what waited
+abbrev pub invariant-left : goal.invariant-left
+invariant-left g l = record {
+  indexes : l.self.indexes ++ all_firsts l.left ≡ l.fn.self.indexes ++ all_firsts l.entries;
+  frames : l.spares + l.self.full ≡ l.fn.spares + l.fn.self.full;
   cut : IsCut l.self;
 }
+
+abbrev pub decreases-left : goal.decreases-left
+decreases-left g l = length l.left
