@@ -163,10 +163,9 @@ impl Buffer {
         ensures room { vec_capacity list.old ≤ vec_capacity list.new }
     {
         know_contents(self);
-        for k in 0..self.pieces() {
-            let Ok(()) = list.extend_from_slice(self.piece(k)) else {
-                unreachable!()
-            };
+        append(list, self.piece(0));
+        for k in 1..self.pieces() {
+            append(list, self.piece(k));
         }
     }
 
@@ -299,6 +298,19 @@ pub fn know_contents(buffer: &Buffer)
     ensures { AreContents buffer.now }
 {
     let _head = buffer.head();
+}
+
+// Puts bytes behind those of a list that has room for them.
+#[inline]
+fn append(list: &mut Vec<u8>, bytes: &[u8])
+    requires { vec_len list.old + length bytes.now ≤ vec_capacity list.old }
+    ensures items { list.new.items ≡ list.old.items ++ bytes.now }
+    ensures len { vec_len list.new ≡ vec_len list.old + length bytes.now }
+    ensures room { vec_capacity list.old ≤ vec_capacity list.new }
+{
+    let Ok(()) = list.extend_from_slice(bytes) else {
+        unreachable!()
+    };
 }
 
 // A frame with a tag has at least 18 bytes.

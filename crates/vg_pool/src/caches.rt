@@ -105,9 +105,9 @@ impl<T: Ledger, G: Ledger> Cache<T, G> {
         requires count { self.old.freed < 2 ^ 62 }
         ensures { self.new ≡ record self.old { len = self.old.len + buffer.pieces; freed = self.old.freed + buffer.pieces } }
     {
-        let count = buffer.pieces();
+        let before = self.items.len();
         unchain(buffer, &mut self.items);
-        self.freed += u64::from(count);
+        self.freed += (self.items.len() - before) as u64;
     }
 
     // How many buffers `alloc` gave and `free` took.

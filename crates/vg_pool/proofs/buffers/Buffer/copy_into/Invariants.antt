@@ -4,4 +4,4 @@ use Rattle.vg_pool.specs.Contents.{begins}
 use Rattle.vg_pool.proofs.buffers.Buffer.copy_into.Given as goal
 
 abbrev pub invariant-loop-k : goal.invariant-loop-k
-invariant-loop-k l = (l.list.items ≡ l.initial.list.items ++ take (begins l.self.packet.room l.k) l.self.packet.bytes) × (vec_capacity l.initial.list ≤ vec_capacity l.list)
+invariant-loop-k l = (l.list.items ≡ l.fn.list.items ++ take (begins l.self.packet.room l.k) l.self.packet.bytes) × (vec_capacity l.fn.list ≤ vec_capacity l.list)
