@@ -1,7 +1,7 @@
 //! Caches: the buffers of one worker.
-ghost use Rattle.std.specs.Prelude.{◌≡◌, ◌+◌, ◌-◌, ◌^◌, ◌<◌, ◌≤◌, MatchOption, IfOk, vec_len, vec_capacity};
+ghost use Rattle.std.specs.Prelude.{◌≡◌, ◌+◌, ◌-◌, ◌^◌, ◌<◌, ◌≤◌, MatchOption, IfOk, length, vec_len, vec_capacity};
 ghost use Rattle.vg_model.specs.PoolBook.{IsCacheBook, empty_cache, most_pieces, pieces_of};
-ghost use Rattle.vg_pool.specs.Contents.{nothing};
+ghost use Rattle.vg_pool.specs.Contents.{nothing, received};
 ghost use Rattle.vg_pool.specs.Moves.{most_cached};
 ghost use Rattle.vg_pool.specs.Settlement.{counts_of};
 
@@ -98,6 +98,38 @@ impl<T: Ledger, G: Ledger> Cache<T, G> {
         Some(buffer)
     }
 
+    /// A chain with the packet of this number and these bytes, as it is received: what [`Cache::alloc`] gives for so many bytes, filled by
+    /// [`Buffer::fill`]. `None` exactly where the cache has fewer buffers.
+    #[inline(always)]
+    pub fn receive(&mut self, number: u32, bytes: &[u8]) -> Option<Buffer>
+        requires { self.old.allocated < 2 ^ 62 }
+        ensures { let pieces = pieces_of (length bytes.now) in MatchOption result
+            ((self.old.len < pieces) × (self.new ≡ self.old))
+            (λ buffer. (buffer ≡ received pieces number bytes.now) × (pieces ≤ self.old.len)
+            × (self.new ≡ record self.old { len = self.old.len - pieces; allocated = self.old.allocated + pieces })) }
+    {
+        if bytes.len() > BUFFER_SIZE {
+            return self.receive_long(number, bytes);
+        }
+        let first = self.items.pop()?;
+        self.allocated += 1;
+        Some(first.filled(number, bytes))
+    }
+
+    // The same for a packet of more bytes than a buffer has.
+    #[inline(never)]
+    fn receive_long(&mut self, number: u32, bytes: &[u8]) -> Option<Buffer>
+        requires { self.old.allocated < 2 ^ 62 }
+        ensures { let pieces = pieces_of (length bytes.now) in MatchOption result
+            ((self.old.len < pieces) × (self.new ≡ self.old))
+            (λ buffer. (buffer ≡ received pieces number bytes.now) × (pieces ≤ self.old.len)
+            × (self.new ≡ record self.old { len = self.old.len - pieces; allocated = self.old.allocated + pieces })) }
+    {
+        let mut buffer = self.alloc(asked_len(bytes))?;
+        buffer.fill(number, bytes);
+        Some(buffer)
+    }
+
     /// Takes the buffers of a chain in. What it carried is forgotten as they are given out again.
     #[inline(always)]
     pub fn free(&mut self, buffer: Buffer)
@@ -149,6 +181,14 @@ fn pieces(bytes: u32) -> u32
     bytes.div_ceil(BUFFER_SIZE) as u32
 }
 
+// A length for which a packet of these bytes takes as many buffers: its own, or one more than the longest where it is too long.
+#[inline]
+fn asked_len(bytes: &[u8]) -> u32
+    ensures { pieces_of result ≡ pieces_of (length bytes.now) }
+{
+    bytes.len().min(LONGEST_PACKET + 1) as u32
+}
+
 // A chain of so many of the buffers, with no packet.
 #[inline]
 fn chain(items: &mut Vec<Spare>, count: u32) -> Buffer
@@ -161,7 +201,7 @@ fn chain(items: &mut Vec<Spare>, count: u32) -> Buffer
     let Some(first) = items.pop() else {
         unreachable!()
     };
-    let mut buffer = first.emptied();
+    let mut buffer = first.filled(0, &[]);
     for _ in 1..count {
         let Some(spare) = items.pop() else {
             unreachable!()

@@ -8,12 +8,12 @@
 //!
 //! What calls cost: [`Cache::alloc`] and [`Cache::free`] take no lock and no memory. They move one pointer for each buffer of the chain,
 //! at most five, between the cache's list and the caller, and count them; `alloc` also clears the first block's metadata and links the
-//! others behind it. [`Pool::take`] and [`Pool::give`] move one pointer a buffer. [`BufferStack::push`] and [`BufferStack::pop`] write
+//! others behind it, and [`Cache::receive`] sets the metadata to that of a packet and copies its bytes in. [`Pool::take`] and [`Pool::give`] move one pointer a buffer. [`BufferStack::push`] and [`BufferStack::pop`] write
 //! the link in the chain's first block, and [`BufferStack::reversed`] those of all its chains. [`Buffer::head`] and all that reads or
 //! writes the metadata look at the first block alone. [`Buffer::piece`] follows a link for each buffer in front of that part, and
 //! [`Buffer::pieces`] and [`Cache::free`] follow all links of the chain.
 //!
-//! [`Buffer::fill`] and [`Buffer::lay`] copy a packet in, and [`Buffer::copy_into`] copies one out; [`Buffer::cut`] and [`Buffer::tag`] move its
+//! [`Cache::receive`], [`Buffer::fill`] and [`Buffer::lay`] copy a packet in, and [`Buffer::copy_into`] copies one out; [`Buffer::cut`] and [`Buffer::tag`] move its
 //! first twelve bytes; [`Buffer::write`] copies in what it is given; no other call copies any bytes of a packet. The bytes of a buffer aren't
 //! written as the pool is made: a packet that reaches further into a buffer than any before it writes zeros there first.
 //!

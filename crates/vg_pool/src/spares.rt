@@ -1,7 +1,8 @@
 //! Buffers that nobody uses.
-ghost use Rattle.std.specs.Prelude.{◌≡◌, []};
+ghost use Rattle.std.specs.Prelude.{◌≡◌, ◌≤◌, [], length};
+ghost use Rattle.vg_model.specs.PoolBook.{buffer_size};
 ghost use Rattle.vg_pool.specs.Areas.{area_size};
-ghost use Rattle.vg_pool.specs.Contents.{nothing};
+ghost use Rattle.vg_pool.specs.Contents.{received};
 
 use crate::areas::Area;
 use crate::buffers::{Block, Buffer};
@@ -69,20 +70,21 @@ impl Spare {
         block
     }
 
-    /// A chain of this buffer alone, with no packet.
-    #[inline]
-    pub(crate) fn emptied(self) -> Buffer
-        ensures { result ≡ nothing 1 }
+    /// A chain of this buffer alone, with the packet of this number and these bytes, as it is received.
+    #[inline(always)]
+    pub(crate) fn filled(self, number: u32, bytes: &[u8]) -> Buffer
+        requires { length bytes.now ≤ buffer_size }
+        ensures { result ≡ received 1 number bytes.now }
     {
         let Spare { mut block } = self;
-        let empty = &mut *block;
-        empty.number = 0;
-        empty.checked = false;
-        empty.adjacency = None;
-        empty.interface = None;
-        empty.legs = Legs::new();
-        empty.behind = 0;
-        empty.area.fill(FIRST_ROOM, &[]);
+        let filled = &mut *block;
+        filled.number = number;
+        filled.checked = false;
+        filled.adjacency = None;
+        filled.interface = None;
+        filled.legs = Legs::new();
+        filled.behind = 0;
+        filled.area.fill(FIRST_ROOM, bytes);
         Buffer { block }
     }
 }

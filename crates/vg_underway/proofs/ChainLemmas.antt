@@ -11,13 +11,13 @@ use Rattle.vg_journeys.specs.Windows.{next_draws, mark_behind}
 use Rattle.vg_underway.specs.Draws.{kept_pieces, AreChained}
 use Rattle.vg_underway.proofs.DrawLemmas.{IsTakenOut}
 
--- a chain that `alloc` gave, for a length for which a packet takes as many buffers
-pub taken_out : (bytes : List ℕ) (asked : ℕ) (before cache : CacheBook) → pieces_of asked ≡ pieces_of (length bytes) → pieces_of asked ≤ before.len
-    → cache ≡ record before { len = before.len - pieces_of asked; allocated = before.allocated + pieces_of asked } → IsTakenOut bytes before cache
-taken_out bytes asked before cache same enough is = record {
-  len = (let e = ap (λ c. c.len) is in omega (arith, e, same, enough));
+-- the chain of a packet that was received
+pub taken_out : (bytes : List ℕ) (before cache : CacheBook) → pieces_of (length bytes) ≤ before.len
+    → cache ≡ record before { len = before.len - pieces_of (length bytes); allocated = before.allocated + pieces_of (length bytes) } → IsTakenOut bytes before cache
+taken_out bytes before cache enough is = record {
+  len = (let e = ap (λ c. c.len) is in omega (arith, e, enough));
   freed = ap (λ c. c.freed) is;
-  allocated = (let e = ap (λ c. c.allocated) is in omega (arith, e, same));
+  allocated = ap (λ c. c.allocated) is;
   taken = ap (λ c. c.taken) is;
   given = ap (λ c. c.given) is;
 }

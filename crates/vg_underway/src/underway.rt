@@ -5,8 +5,8 @@ ghost use Rattle.std.specs.List.{AllByRecursion};
 ghost use Rattle.vg_model.specs.Graph.{kind_at, handoff_dequeue};
 ghost use Rattle.vg_model.specs.declared.kinds.Step.{Step};
 ghost use Rattle.vg_hands.specs.Handed.{most_handed};
-ghost use Rattle.vg_model.specs.PoolBook.{CacheBook, IsChainOf, pieces_of};
-ghost use Rattle.vg_pool.specs.Contents.{AreContents};
+ghost use Rattle.vg_model.specs.PoolBook.{CacheBook, IsChainOf};
+ghost use Rattle.vg_pool.specs.Contents.{AreContents, received};
 ghost use Rattle.vg_journeys.specs.Accounts.{frame_arrivals};
 ghost use Rattle.vg_model.specs.Valid.{IsTarget, IsValid, AreBytes};
 ghost use Rattle.vg_frame.specs.Pending.{IsNothingPending};
@@ -446,8 +446,8 @@ impl Work {
         ) {}
     }
 
-    // Draws a packet, for which this chain was taken: it is put into it and waits for the node that the packet source leads to, or is
-    // dropped there where it is too long.
+    // Draws a packet, which was put into this chain: it waits for the node that the packet source leads to, or is dropped there where it
+    // is too long.
     fn draw<T: Ledger, G: Ledger>(
         &mut self,
         fork: &Fork,
@@ -460,6 +460,7 @@ impl Work {
         requires valid { IsValid fork.now.graph }
         requires few { length fork.now.graph.nodes ≤ length self.old.pending }
         requires chain { IsChainOf (length bytes.now) buffer.pieces }
+        requires filled { buffer ≡ received buffer.pieces number bytes.now }
         requires can { CanDraw buffer.pieces self.old cache.old }
         ensures bytes { AreBytes bytes.now }
         ensures long { LONGEST_PACKET < length bytes.now → DrawsLong leg number self.old self.new cache.old cache.new }
@@ -480,7 +481,6 @@ impl Work {
             );
             cache.free(buffer);
         } else {
-            buffer.fill(number, bytes);
             buffer.add_leg(leg);
             let index = self.memory.place(buffer);
             self.pending.put(fork.arc(PG_INPUT, FIRST_SLOT), index);
@@ -566,25 +566,18 @@ impl Work {
             mark,
         };
         'draws: while drew.count < most && drew.mark < u64::from(limit) {
+            let number = drew.mark as u32;
             let bytes = packets.bytes(drew.mark as usize);
-            let Some(buffer) = cache.alloc(drawn_len(bytes)) else {
+            let Some(buffer) = cache.receive(number, bytes) else {
                 break;
             };
-            self.draw(fork, leg, drew.mark as u32, bytes, buffer, cache);
+            self.draw(fork, leg, number, bytes, buffer, cache);
             drew.count += 1;
             drew.bytes += bytes.len() + FIRST_ROOM;
             drew.mark += u64::from(station.workers);
         }
         drew
     }
-}
-
-// A length for which a packet of these bytes takes as many buffers: its own, or one more than the longest where it is too long.
-#[inline]
-fn drawn_len(bytes: &[u8]) -> u32
-    ensures { pieces_of result ≡ pieces_of (length bytes.now) }
-{
-    bytes.len().min(LONGEST_PACKET + 1) as u32
 }
 
 // What holds of every buffer.

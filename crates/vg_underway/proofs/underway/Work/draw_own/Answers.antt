@@ -6,7 +6,7 @@ use Rattle.vg_underway.specs.Underway.{Setting, stationed}
 use Rattle.std.specs.Prelude.{slice_index_or}
 use Rattle.vg_model.specs.Journey.{longest_packet}
 use Rattle.vg_model.specs.PoolBook.{CacheBook, pieces_of}
-use Rattle.vg_pool.specs.Contents.{Contents}
+use Rattle.vg_pool.specs.Contents.{Contents, received}
 use Rattle.vg_pool.proofs.BlockLemmas.{pieces_long}
 use Rattle.vg_capture.specs.declared.captures.Captured.{Captured}
 use Rattle.vg_underway.specs.Draws.{IsReady, IsEntered, CanDraw, CanDrawOwn, AreBelow, AreChained, kept_pieces}
@@ -30,16 +30,22 @@ draw-requires-clause-can g c =
     let so_far : List Arrival = next_draws c.args.station.workers c.args.mark c.draws.drew.count (frames_of c.args.packets.now) in
     let ready : IsReady (from.before ++ next_draws c.args.station.workers c.args.mark (suc c.draws.drew.count) (frames_of c.args.packets.now)) from.start from.start_cache =
     from.ready (suc c.draws.drew.count) (let test = c.draws-test.true in omega (arith, test)) below in
-    let out : IsTakenOut c.bytes-bytes.result.now c.draws.cache c.alloc.new.self = taken_out c.bytes-bytes.result.now c.drawn_len.result c.draws.cache c.alloc.new.self c.drawn_len.ensures c.in-Some.ensures.1 c.in-Some.ensures.2 in
-    let chain : c.in-Some.buffer.pieces ≡ pieces_of (length c.bytes-bytes.result.now) = ap (λ (b : Contents). b.pieces) c.in-Some.ensures.0 ∙ c.drawn_len.ensures in
-    subst (λ n. CanDraw n c.draws.self c.alloc.new.self) (sym chain)
+    let out : IsTakenOut c.bytes-bytes.result.now c.draws.cache c.receive.new.self = taken_out c.bytes-bytes.result.now c.draws.cache c.receive.new.self c.in-Some.ensures.1 c.in-Some.ensures.2 in
+    let chain : c.in-Some.buffer.pieces ≡ pieces_of (length c.bytes-bytes.result.now) = ap (λ (b : Contents). b.pieces) c.in-Some.ensures.0 in
+    subst (λ n. CanDraw n c.draws.self c.receive.new.self) (sym chain)
     (can_draw s (from.before ++ next_draws c.args.station.workers c.args.mark (suc c.draws.drew.count) (frames_of c.args.packets.now)) (from.before ++ so_far) [] c.draws.drew.mark c.bytes-bytes.result.now from.start c.draws.self from.start_cache c.draws.cache
     c.requires.setting ready (inv.drawn from)
     (ap (λ n. from.before ++ next_draws c.args.station.workers c.args.mark n (frames_of c.args.packets.now)) (sym (add-one c.draws.drew.count)) ∙ ap (λ es. from.before ++ es) next ∙ sym (append_assoc from.before so_far (Drawn c.draws.drew.mark c.bytes-bytes.result.now ∷ [])))
-    c.alloc.new.self out.len out.freed)
+    c.receive.new.self out.len out.freed)
 
 pub draw-requires-clause-chain : goal.draw-requires-clause-chain
-draw-requires-clause-chain g c = ap (λ (b : Contents). b.pieces) c.in-Some.ensures.0 ∙ c.drawn_len.ensures
+draw-requires-clause-chain g c = ap (λ (b : Contents). b.pieces) c.in-Some.ensures.0
+
+pub draw-requires-clause-filled : goal.draw-requires-clause-filled
+draw-requires-clause-filled g c =
+    let bytes : List ℕ = c.bytes-bytes.result.now in
+    let chain : c.in-Some.buffer.pieces ≡ pieces_of (length bytes) = ap (λ (b : Contents). b.pieces) c.in-Some.ensures.0 in
+    c.in-Some.ensures.0 ∙ ap (λ n. received n c.draws.drew.mark bytes) (sym chain)
 
 pub overflow_add-drew-in-draws-2 : goal.overflow_add-drew-in-draws-2
 overflow_add-drew-in-draws-2 g c =
@@ -67,21 +73,21 @@ draws-preserved g c =
     let workers = c.from-in-draws.ensures in
     let here = ap length there.2 in
     let bytes : List ℕ = c.bytes-bytes.result.now in
-    let out : IsTakenOut bytes c.draws.cache c.alloc.new.self = taken_out bytes c.drawn_len.result c.draws.cache c.alloc.new.self c.drawn_len.ensures c.in-Some.ensures.1 c.in-Some.ensures.2 in
+    let out : IsTakenOut bytes c.draws.cache c.receive.new.self = taken_out bytes c.draws.cache c.receive.new.self c.in-Some.ensures.1 c.in-Some.ensures.2 in
     let captured : slice_index_or (frames_of c.args.packets.now) c.draws.drew.mark [] ≡ bytes = map_at (λ (x : Captured). x.bytes) c.args.packets.now c.draws.drew.mark there.0 [] inside there.1 ∙ sym there.2 in
     record {
       drawn = λ from.
           let entered = inv.drawn from in
           let ready : IsReady (from.before ++ next_draws c.args.station.workers c.args.mark (suc c.draws.drew.count) (frames_of c.args.packets.now)) from.start from.start_cache =
           from.ready (suc c.draws.drew.count) (let test = c.draws-test.true in omega (arith, test)) below in
-          let can : CanDraw (pieces_of (length bytes)) c.draws.self c.alloc.new.self =
+          let can : CanDraw (pieces_of (length bytes)) c.draws.self c.receive.new.self =
           can_draw s (from.before ++ next_draws c.args.station.workers c.args.mark (suc c.draws.drew.count) (frames_of c.args.packets.now)) (from.before ++ so_far) [] c.draws.drew.mark c.bytes-bytes.result.now from.start c.draws.self from.start_cache c.draws.cache
           c.requires.setting ready entered
-          (ap (λ n. from.before ++ next_draws c.args.station.workers c.args.mark n (frames_of c.args.packets.now)) (sym (add-one c.draws.drew.count)) ∙ ap (λ es. from.before ++ es) next ∙ sym (append_assoc from.before so_far (e ∷ []))) c.alloc.new.self out.len out.freed in
+          (ap (λ n. from.before ++ next_draws c.args.station.workers c.args.mark n (frames_of c.args.packets.now)) (sym (add-one c.draws.drew.count)) ∙ ap (λ es. from.before ++ es) next ∙ sym (append_assoc from.before so_far (e ∷ []))) c.receive.new.self out.len out.freed in
           let done : IsEntered s ((from.before ++ so_far) ++ e ∷ []) from.start from.start_cache c.draw.new.self c.draw.new.cache = elim (cases_lt longest_packet (length bytes)) [
-            | inl long ↦ long_entered s c.args.leg (from.before ++ so_far) c.draws.drew.mark c.bytes-bytes.result.now from.start c.draws.self c.draw.new.self from.start_cache c.draws.cache c.alloc.new.self c.draw.new.cache
+            | inl long ↦ long_entered s c.args.leg (from.before ++ so_far) c.draws.drew.mark c.bytes-bytes.result.now from.start c.draws.self c.draw.new.self from.start_cache c.draws.cache c.receive.new.self c.draw.new.cache
                 out can c.requires.leg c.draw.ensures.bytes long (c.draw.ensures.long long) entered
-            | inr short ↦ short_entered s c.args.leg (from.before ++ so_far) c.draws.drew.mark c.bytes-bytes.result.now from.start c.draws.self c.draw.new.self from.start_cache c.draws.cache c.alloc.new.self c.draw.new.cache
+            | inr short ↦ short_entered s c.args.leg (from.before ++ so_far) c.draws.drew.mark c.bytes-bytes.result.now from.start c.draws.self c.draw.new.self from.start_cache c.draws.cache c.receive.new.self c.draw.new.cache
                 c.requires.setting out can c.requires.leg c.draw.ensures.bytes short (c.draw.ensures.short short) entered
           ] in
           subst (λ es. IsEntered s es from.start from.start_cache c.draw.new.self c.draw.new.cache) (append_assoc from.before so_far (e ∷ []) ∙ ap (λ es. from.before ++ es) (sym next)) done;
@@ -103,8 +109,8 @@ draws-preserved g c =
       bytes = (let bytes = step.bytes in let so_far_bytes = inv.bytes in omega (arith, bytes, so_far_bytes, here));
     }
 
-pub alloc-requires : goal.alloc-requires
-alloc-requires g c =
+pub receive-requires : goal.receive-requires
+receive-requires g c =
     let s : Setting = stationed g.K.KindSet.meaning c.args.fork.now.graph c.args.fork.now.generation c.args.station in
     let from : CanDrawOwn s c.args.mark c.args.limit c.args.most c.args.packets.now c.args.self.now c.args.cache.now = c.requires.can in
     let inv = c.draws.invariant in
@@ -119,7 +125,6 @@ returns-in_default-clause-all g c = λ few.
     let bytes : List ℕ = c.bytes-bytes.result.now in
     let captured : slice_index_or (frames_of c.args.packets.now) c.draws.drew.mark [] ≡ bytes = map_at (λ (x : Captured). x.bytes) c.args.packets.now c.draws.drew.mark there.0 [] inside there.1 ∙ sym there.2 in
     let size = ap (λ (b : List ℕ). pieces_of (length b)) captured in
-    let asked = c.drawn_len.ensures in
     let short = c.in_default.ensures.0 in
     let same = ap (λ (x : CacheBook). x.len) c.in_default.ensures.1 in
-    inr (omega (arith, size, asked, short, same))
+    inr (omega (arith, size, short, same))

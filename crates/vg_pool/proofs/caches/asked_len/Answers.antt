@@ -3,7 +3,7 @@ use Rattle.std.specs.Prelude.{min}
 use Rattle.std.proofs.lemmas.Bool.{cases_lt}
 use Rattle.vg_model.specs.PoolBook.{pieces_of}
 use Rattle.vg_pool.proofs.BlockLemmas.{pieces_long}
-use Rattle.vg_underway.proofs.underway.drawn_len.Goals as goal
+use Rattle.vg_pool.proofs.caches.asked_len.Goals as goal
 
 pub returns : goal.returns
 returns c =
