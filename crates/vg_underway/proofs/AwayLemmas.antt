@@ -1,7 +1,7 @@
 -- The packets of a dispatch are put away one by one.
 use Rattle.std.proofs.Common.{◌≡◌, ℕ, suc, ◌+◌, ◌<◌, ◌≤◌, ◌^◌, List, [], ◌∷◌, ◌++◌, length, map, get_or, take, drop, set, refl, sym, ap, subst, ◌∙◌, arith, add-one, drop-cons, append_assoc}
 use Rattle.std.specs.Prelude.{Bool, Option, Some, None, IfSome, slice_index, vec_len, vec_capacity}
-use Rattle.std.specs.List.{sum_by, cons_option, AllByRecursion}
+use Rattle.std.specs.List.{sum_by, AllByRecursion}
 use Rattle.std.proofs.lemmas.List.{drop_all, length-append, length-map, map-append, take-append-drop}
 use Rattle.std.proofs.lemmas.List.Sums.{sum_by-cons}
 use Rattle.vg_model.specs.Errors.{error_number}
@@ -33,7 +33,7 @@ use Rattle.vg_underway.specs.Underway.{Setting, IsSetting, moved, move_owed, con
 use Rattle.vg_underway.specs.Hands.{PutsAway, IsDispatched}
 use Rattle.vg_underway.proofs.DeliverLemmas.{delivers_then, delivers_nothing}
 use Rattle.vg_underway.specs.Traced.{Sight, IsTraced, with_refusals, noted_frame}
-use Rattle.vg_underway.specs.Works.{total, next_step, IsHeld, IsSteady, Advances, Exchanges, TakesAll, IsPutAway, EndsHere, hand_of, visits_in_all, visits_left, ends_of, refused_visits, logged_count, by_pieces}
+use Rattle.vg_underway.specs.Works.{total, next_step, IsHeld, IsSteady, Advances, Exchanges, TakesAll, IsPutAway, EndsHere, hand_of, visits_in_all, visits_left, ends_of, refused_visits, by_pieces}
 use Rattle.vg_underway.specs.Works.{CanFinish, CanCount, Finishes, outcome_of, ended_with, settled_with, sent_len, by_bytes, by_visits, by_all_visits}
 use Rattle.vg_underway.proofs.SumLemmas.{sum_by_none, counts_from_at}
 use Rattle.vg_underway.proofs.OwedLemmas.{target_within, drop_within}
