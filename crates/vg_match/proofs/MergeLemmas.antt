@@ -8,7 +8,7 @@ use Rattle.std.specs.Ordering.{nat_cmp, ordering_reverse, ordering_then, is_lt}
 use Rattle.std.specs.declared.cmp.Ordering.{Ordering}
 use Rattle.std.specs.declared.cmp.Ordering.TheVariants.{Less, Equal, Greater}
 use Rattle.std.specs.List.Sorted.{IsPermutation, IsSorted}
-use Rattle.std.proofs.lemmas.Cmp.{nat_list_cmp_total, nat_cmp_total, then_total}
+use Rattle.std.proofs.lemmas.Cmp.{nat_list_cmp_total, nat_cmp_total, then_total, tied_itself}
 use Rattle.std.proofs.Math.Seq.{drop-cons, take-length}
 use Rattle.std.proofs.lemmas.List.{append-nil, map-append, drop_all, length-drop, length-map, get_or-map, drop-map}
 use Rattle.std.proofs.lemmas.List.Elements.{All-nil, All-cons, All-head, All-tail, All-append, All-push, All-weaker}
@@ -53,6 +53,10 @@ second_equal Greater second same = cc
 same_keys : (first second : List ℕ) → keys_cmp first second ≡ Equal → first ≡ second
 same_keys first second equal =
     slice_cmp-IsAntisymmetric nat_cmp-IsAntisymmetric first second (second_equal (nat_cmp (hash_of first) (hash_of second)) (slice_cmp nat_cmp first second) equal)
+
+-- the same bytes stand equal
+pub same_slices : (first second : List ℕ) → first ≡ second → slice_cmp nat_cmp first second ≡ Equal
+same_slices first second same = ap (slice_cmp nat_cmp first) (sym same) ∙ tied_itself nat_list_cmp_total first
 
 -- of entries that never fall, the first is not above any other, and the others never fall
 first_rises : (x : Entry) (xs : List Entry) → Rises (x ∷ xs) → All (NotBelow x) xs

@@ -4,10 +4,12 @@ use Rattle.std.proofs.lemmas.List.{map-append, take_more, get_or-map, length-map
 use Rattle.std.proofs.Math.Seq.{drop-cons}
 use Rattle.vg_match.specs.declared.fields.Field.{Field}
 use Rattle.vg_match.specs.declared.frames.Layout.{Layout}
+use Rattle.vg_match.specs.declared.matching.Hashed.{Hashed}
 use Rattle.vg_match.specs.declared.ranges.Range.{Range}
 use Rattle.vg_match.specs.declared.sides.Side.{Side}
 use Rattle.vg_match.specs.Frames.{front, layout_of}
 use Rattle.vg_match.specs.Keys.{compared, masked}
+use Rattle.vg_match.specs.Matching.{entry_of}
 use Rattle.vg_match.specs.Sides.{IsSide, seen, frame_at, is_meant, meant_number, meant_numbers, left_out}
 
 -- a function of one more
@@ -25,6 +27,10 @@ compared_none frame = masked-none (layout_of frame) 0 (front frame)
 -- the frame of a number is what stands there
 pub seen_at : (frames : List (Bor (List ℕ))) (i : ℕ) (d : Bor (List ℕ)) → i < length frames → frame_at (seen frames) i ≡ (get_or frames i d).now
 seen_at frames i d below = get_or-map (λ (frame : Bor (List ℕ)). frame.now) frames i d [] below
+
+-- one entry more
+pub entries_more : (before after : List Hashed) (one : Hashed) → after ≡ before ++ one ∷ [] → map entry_of after ≡ map entry_of before ++ entry_of one ∷ []
+entries_more before after one are = ap (map entry_of) are ∙ map-append entry_of before (one ∷ [])
 
 -- from a number on, the frame of that number is left out or named
 pub meant_more : (only : List Range) (frames : List (List ℕ)) (before after : List ℕ) (i : ℕ) → i < length frames → after ≡ before ++ meant_number only i (frame_at frames i)

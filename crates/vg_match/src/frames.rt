@@ -167,5 +167,7 @@ pub fn layout_of(frame: &[u8]) -> Layout
 pub fn front(frame: &[u8]) -> &[u8]
     ensures { result.now ≡ front_of frame.now }
 {
-    &frame[..layout_of(frame).end.min(frame.len())]
+    let carried = kind_of(frame);
+    let end = end(frame, carried, type_at(frame) + 2);
+    &frame[..end.min(frame.len())]
 }

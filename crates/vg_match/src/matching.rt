@@ -1,5 +1,8 @@
 //! Entries of two sides, matched one to one by their keys.
 ghost use Rattle.std.specs.Prelude.{◌≡◌, ◌++◌, map, All, IfOk, OnOk};
+ghost use Rattle.std.specs.Cmp.Lexicographic.{slice_cmp};
+ghost use Rattle.std.specs.List.Sorted.{IsPermutation};
+ghost use Rattle.std.specs.Ordering.{nat_cmp};
 ghost use Rattle.vg_match.specs.Matching.{IsMatchingOf, entry_of, IsHashed, AreHashed, AreInOrder, hashed_cmp};
 
 use crate::hashes::hash_of;
@@ -34,15 +37,37 @@ pub(crate) struct Hashed<'a> {
     entry: Entry<'a>,
 }
 
+// How two keys of one hash stand to each other. They are mostly the same, and that is seen sooner than an order.
+fn order_of_keys(one: &[u8], other: &[u8]) -> Ordering
+    ensures { result ≡ slice_cmp nat_cmp one.now other.now }
+{
+    if one == other {
+        Ordering::Equal
+    } else {
+        one.cmp(other)
+    }
+}
+
 impl<'a> Hashed<'a> {
     // How the keys stand to each other.
     fn key_order(&self, other: &Hashed<'_>) -> Ordering
         ensures { result ≡ hashed_cmp self.now other.now }
     {
         match self.hash.cmp(&other.hash) {
-            Ordering::Equal => self.entry.key.cmp(&other.entry.key),
+            Ordering::Equal => order_of_keys(self.entry.key, other.entry.key),
             order => order,
         }
+    }
+}
+
+// An entry with the hash of its key.
+pub(crate) fn with_hash<'a>(one: Entry<'a>) -> Hashed<'a>
+    ensures same { entry_of result ≡ one.entry }
+    ensures hash { IsHashed result }
+{
+    Hashed {
+        hash: hash_of(one.key),
+        entry: one,
     }
 }
 
@@ -53,16 +78,20 @@ fn with_hashes<'a>(alloc: Global, entries: &[Entry<'a>]) -> Result<Vec<Hashed<'a
 {
     let mut made = Vec::with_capacity(alloc, entries.len())?;
     for entry in entries {
-        made.push(Hashed {
-            hash: hash_of(entry.key),
-            entry: *entry,
-        })?;
+        made.push(with_hash(*entry))?;
     }
     Ok(made)
 }
 
-// Adds entries behind the others.
-fn put_entries<'a>(out: &mut Vec<Entry<'a>>, hashed: &[Hashed<'a>]) -> Result<(), AllocError>
+/// Adds entries behind the others.
+///
+/// # Errors
+///
+/// [`AllocError`] where memory runs out.
+pub(crate) fn put_entries<'a>(
+    out: &mut Vec<Entry<'a>>,
+    hashed: &[Hashed<'a>],
+) -> Result<(), AllocError>
     ensures { OnOk result (out.new.items ≡ out.old.items ++ map entry_of hashed.now) }
 {
     for one in hashed {
@@ -118,19 +147,22 @@ pub(crate) fn merge<'a>(
     })
 }
 
-/// Entries with the hashes of their keys, in the order of their keys.
-///
-/// # Errors
-///
-/// [`AllocError`] where memory runs out.
-pub(crate) fn in_order<'a>(
-    alloc: Global,
-    entries: &[Entry<'a>],
-) -> Result<Vec<Hashed<'a>>, AllocError>
+/// Puts entries in the order of their keys.
+pub(crate) fn put_in_order(hashed: &mut Vec<Hashed<'_>>)
+    requires { All IsHashed hashed.old.items }
+    ensures order { AreHashed hashed.new.items }
+    ensures moved { IsPermutation hashed.old.items hashed.new.items }
+{
+    // No two are the same: they differ in their numbers.
+    hashed.sort_unstable();
+}
+
+// Entries with the hashes of their keys, in the order of their keys.
+fn in_order<'a>(alloc: Global, entries: &[Entry<'a>]) -> Result<Vec<Hashed<'a>>, AllocError>
     ensures { IfOk result (λ made. AreInOrder entries.now made.items) }
 {
     let mut hashed = with_hashes(alloc, entries)?;
-    hashed.sort()?;
+    put_in_order(&mut hashed);
     Ok(hashed)
 }
 

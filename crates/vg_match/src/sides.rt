@@ -1,12 +1,13 @@
 //! The packets of one side.
 ghost use Rattle.std.specs.Prelude.{◌≡◌, ◌<◌, ◌++◌, [], length, map, All, IfOk, OnOk};
 ghost use Rattle.vg_match.specs.Keys.{compared as compared_bytes};
+ghost use Rattle.vg_match.specs.Matching.{entry_of, IsHashed};
 ghost use Rattle.vg_match.specs.Sides.{is_meant as is_meant_frame, IsSide, seen, number_of, key_of, meant_number, meant_numbers, frame_at, IsOf, alike_at, AreKeys, IsInOrder};
 
 use crate::fields::Field;
 use crate::frames::front;
 use crate::keys::{Likeness, compared, likeness_of};
-use crate::matching::{Entry, Hashed, in_order};
+use crate::matching::{Entry, Hashed, put_entries, put_in_order, with_hash};
 use crate::noise::is_noise;
 use crate::ranges::{Range, is_in_reach};
 use std::alloc::{AllocError, Global};
@@ -85,9 +86,9 @@ pub fn is_meant(only: &[Range], frame: &[u8]) -> bool
     !is_noise(frame) && is_in_reach(only, frame)
 }
 
-// Adds the entry of a number, where its frame is meant.
+// Adds the entry of a number, with the hash of its key, where its frame is meant.
 fn put_meant<'k>(
-    entries: &mut Vec<Entry<'k>>,
+    made: &mut Vec<Hashed<'k>>,
     side: &Side<'_, '_, 'k>,
     ignored: &[Field],
     only: &[Range],
@@ -95,18 +96,40 @@ fn put_meant<'k>(
 ) -> Result<(), AllocError>
     requires side { IsSide ignored.now side.now }
     requires number { number < length side.now.frames.now }
-    requires keys { All (IsOf (compared_bytes ignored.now) (seen side.now.frames.now)) entries.old.items }
-    ensures numbers { OnOk result (map number_of entries.new.items ≡ map number_of entries.old.items ++ meant_number only.now number (frame_at (seen side.now.frames.now) number)) }
-    ensures keys { OnOk result (All (IsOf (compared_bytes ignored.now) (seen side.now.frames.now)) entries.new.items) }
+    requires keys { All (IsOf (compared_bytes ignored.now) (seen side.now.frames.now)) (map entry_of made.old.items) }
+    requires hashes { All IsHashed made.old.items }
+    ensures numbers { OnOk result (map number_of (map entry_of made.new.items)
+        ≡ map number_of (map entry_of made.old.items) ++ meant_number only.now number (frame_at (seen side.now.frames.now) number)) }
+    ensures keys { OnOk result (All (IsOf (compared_bytes ignored.now) (seen side.now.frames.now)) (map entry_of made.new.items)) }
+    ensures hashes { OnOk result (All IsHashed made.new.items) }
 {
     if !is_meant(only, side.frames[number]) {
         return Ok(());
     }
-    entries.push(Entry {
+    made.push(with_hash(Entry {
         key: side.keys[number],
         number: number as u32,
-    })?;
+    }))?;
     Ok(())
+}
+
+// The entries of the frames of a side that are meant, with the hashes of their keys, in one pass over the frames.
+fn meant_hashed<'k>(
+    alloc: Global,
+    side: &Side<'_, '_, 'k>,
+    ignored: &[Field],
+    only: &[Range],
+) -> Result<Vec<Hashed<'k>>, AllocError>
+    requires { IsSide ignored.now side.now }
+    ensures numbers { IfOk result (λ made. map number_of (map entry_of made.items) ≡ meant_numbers only.now 0 (seen side.now.frames.now)) }
+    ensures keys { IfOk result (λ made. All (IsOf (compared_bytes ignored.now) (seen side.now.frames.now)) (map entry_of made.items)) }
+    ensures hashes { IfOk result (λ made. All IsHashed made.items) }
+{
+    let mut made = Vec::with_capacity(alloc, side.frames.len())?;
+    for number in 0..side.frames.len() {
+        put_meant(&mut made, side, ignored, only, number)?;
+    }
+    Ok(made)
 }
 
 /// The entries of the frames of a side that are meant.
@@ -124,10 +147,9 @@ pub fn meant_entries<'k>(
     ensures numbers { IfOk result (λ entries. map number_of entries.items ≡ meant_numbers only.now 0 (seen side.now.frames.now)) }
     ensures keys { IfOk result (λ entries. All (IsOf (compared_bytes ignored.now) (seen side.now.frames.now)) entries.items) }
 {
-    let mut entries = Vec::with_capacity(alloc, side.frames.len())?;
-    for number in 0..side.frames.len() {
-        put_meant(&mut entries, side, ignored, only, number)?;
-    }
+    let made = meant_hashed(alloc, side, ignored, only)?;
+    let mut entries = Vec::with_capacity(alloc, made.len())?;
+    put_entries(&mut entries, made.as_slice())?;
     Ok(entries)
 }
 
@@ -146,8 +168,9 @@ pub(crate) fn side_in_order<'k>(
     requires { AreKeys ignored.now frames.now keys.now }
     ensures { IfOk result (λ made. IsInOrder ignored.now only.now (seen frames.now) made.items) }
 {
-    let entries = meant_entries(alloc, &Side { frames, keys }, ignored, only)?;
-    in_order(alloc, entries.as_slice())
+    let mut made = meant_hashed(alloc, &Side { frames, keys }, ignored, only)?;
+    put_in_order(&mut made);
+    Ok(made)
 }
 
 // What the frame of a number is alike by.

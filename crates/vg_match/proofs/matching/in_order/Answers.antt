@@ -1,9 +1,9 @@
--- For the clause of `in_order`: what a sort leaves.
-use Rattle.vg_match.proofs.MergeLemmas.{sorted_from, entries_moved}
+-- For the clause of `in_order`: what is put in order are the entries.
+use Rattle.vg_match.proofs.MergeLemmas.{entries_moved}
 use Rattle.vg_match.proofs.matching.in_order.Goals as goal
 
 pub returns : goal.returns
 returns c = record {
-  hashed = sorted_from c.in_ok-hashed.hashed.items c.sort.new.self.items c.in_ok-hashed.ensures.hashes c.in_ok-sort.ensures.permutation c.in_ok-sort.ensures.sorted;
-  moved = entries_moved c.args.entries.now c.in_ok-hashed.hashed.items c.sort.new.self.items c.in_ok-hashed.ensures.entries c.in_ok-sort.ensures.permutation;
+  hashed = c.put_in_order.ensures.order;
+  moved = entries_moved c.args.entries.now c.in_ok-hashed.hashed.items c.put_in_order.new.hashed.items c.in_ok-hashed.ensures.entries c.put_in_order.ensures.moved;
 }
