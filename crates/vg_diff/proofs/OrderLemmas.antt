@@ -1,5 +1,5 @@
 -- For the clauses of `late`, `late_behind` and of both ways to count what is reordered: one turn more, and the order by hashes alone.
-use Rattle.std.proofs.Common.{◌≡◌, ℕ, zero, suc, ◌+◌, ◌<◌, Bool, true, false, true≢false, ◌&&◌, List, [], ◌∷◌, length, map, get_or, drop, refl, sym, ap, subst, ◌∙◌, add-one, arith, All, Bor}
+use Rattle.std.proofs.Common.{◌≡◌, ℕ, zero, suc, ◌+◌, ◌<◌, Bool, true, false, true≢false, ◌&&◌, List, [], ◌∷◌, length, map, get_or, drop, refl, sym, ap, subst, ◌∙◌, add-one, arith, All, Bor, Option, Some, None}
 use Rattle.std.specs.Bool.{◌==◌}
 use Rattle.std.specs.Cmp.{unsigned_Decides}
 use Rattle.std.specs.Cmp.Derive.{both_true}
@@ -11,27 +11,66 @@ use Rattle.std.specs.declared.cmp.Ordering.{Ordering}
 use Rattle.std.specs.declared.cmp.Ordering.TheVariants.{Less, Equal, Greater}
 use Rattle.std.proofs.lemmas.Cmp.{nat_list_cmp_total, tied_itself}
 use Rattle.std.proofs.lemmas.List.{get_or-map, length-map}
-use Rattle.std.proofs.lemmas.List.Elements.{All-head, All-tail}
+use Rattle.std.proofs.lemmas.List.Elements.{All-nil, All-cons, All-head, All-tail}
+use Rattle.std.proofs.lemmas.Option.{slice_get-map}
+use Rattle.std.specs.List.{slice_get}
+use Rattle.std.specs.Option.{option_map, option_map_or}
 use Rattle.std.proofs.lemmas.Slice.Eq.{bytes_eq-Decides}
 use Rattle.std.proofs.Math.Seq.{drop-cons}
 use Rattle.vg_match.specs.Hashes.{hash_of}
-use Rattle.vg_diff.specs.declared.flows.FlowTurn.{FlowTurn}
 use Rattle.vg_diff.specs.declared.orders.Turn.{Turn}
-use Rattle.vg_diff.specs.Lines.{frame_at}
-use Rattle.vg_diff.specs.Orders.{Coming, flow_of, coming, coming_with, coming_cmp, is_one_flow, late_behind, IsHashed, AreTold, AreToldBehind, AreAllTold}
+use Rattle.vg_match.specs.Sides.{seen}
+use Rattle.vg_diff.specs.Lines.{number_at, frame_at, file_of}
+use Rattle.vg_diff.specs.Orders.{Coming, flow_of, flow_hash, AreFlowHashes, coming_of, turn_of, coming, coming_cmp, is_one_flow, late_behind}
+use Rattle.vg_diff.specs.Orders.{IsHashed, AreTold, AreAllTold}
 
 -- ---- one turn more
 
-pub late_more : (before : Coming) (latest : ℕ) (others : List FlowTurn) (i : ℕ) (d : FlowTurn) → i < length others
-    → late_behind before latest (map coming_with (drop i others)) ≡ late_behind before latest (coming_with (get_or others i d) ∷ map coming_with (drop (i + 1) others))
-late_more before latest others i d below =
-    ap (λ rest. late_behind before latest (map coming_with rest)) (drop-cons others i d below ∙ ap (λ j. get_or others i d ∷ drop j others) (sym (add-one i)))
+-- of turns with their flows, and of such without
+module _ {Turns : Type 0} (coming_as : Turns → Coming) where
+  pub late_more : (before : Coming) (latest : ℕ) (others : List Turns) (i : ℕ) (d : Turns) → i < length others
+      → late_behind before latest (map coming_as (drop i others)) ≡ late_behind before latest (coming_as (get_or others i d) ∷ map coming_as (drop (i + 1) others))
+  late_more before latest others i d below =
+      ap (λ rest. late_behind before latest (map coming_as rest)) (drop-cons others i d below ∙ ap (λ j. get_or others i d ∷ drop j others) (sym (add-one i)))
 
-pub late_more_in : (frames : List (Bor (List ℕ))) (before : Coming) (latest : ℕ) (others : List Turn) (i : ℕ) (d : Turn) → i < length others
-    → late_behind before latest (map (coming frames) (drop i others))
-    ≡ late_behind before latest (coming frames (get_or others i d) ∷ map (coming frames) (drop (i + 1) others))
-late_more_in frames before latest others i d below =
-    ap (λ rest. late_behind before latest (map (coming frames) rest)) (drop-cons others i d below ∙ ap (λ j. get_or others i d ∷ drop j others) (sym (add-one i)))
+-- ---- the hashes of the frames' flows
+
+-- what stands behind no frame has no bytes, and its flow the hash 0
+none_hashed : 0 ≡ flow_hash []
+unfolding flow_of hash_of
+none_hashed = refl
+
+-- the hash of a frame's flow, or that of no frame's
+hash_of_seen : (frame : Option (Bor (List ℕ)))
+    → option_map_or (λ number. number) (option_map flow_hash (option_map (λ (f : Bor (List ℕ)). f.now) frame)) 0 ≡ flow_hash (option_map_or (λ (f : Bor (List ℕ)). f.now) frame [])
+hash_of_seen None = none_hashed
+hash_of_seen (Some frame) = refl
+
+-- the hash at a frame's place is that of its flow
+hash_beside : (frames : List (Bor (List ℕ))) (hashes : List ℕ) → AreFlowHashes frames hashes → (n : ℕ) → number_at hashes n ≡ flow_hash (frame_at frames n)
+hash_beside frames hashes are n =
+    ap (λ all. number_at all n) are
+    ∙ ap (λ found. option_map_or (λ number. number) found 0) (slice_get-map flow_hash (seen frames) n ∙ ap (option_map flow_hash) (slice_get-map (λ (f : Bor (List ℕ)). f.now) frames n))
+    ∙ hash_of_seen (slice_get frames n)
+
+-- a packet that came
+abbrev came : (file hash : ℕ) → (flow : List ℕ) → (got wanted : ℕ) → Coming
+came file hash flow got wanted = record { file = file; hash = hash; flow = flow; got = got; wanted = wanted }
+
+module _ (frames : List (Bor (List ℕ))) (hashes starts : List ℕ) (are : AreFlowHashes frames hashes) where
+  -- the packet of a pair is that with its flow
+  coming_turn : (pair : ℕ × ℕ) → coming frames (turn_of hashes starts pair) ≡ coming_of frames starts pair
+  coming_turn pair = ap (λ hash. came (file_of starts pair.1) hash (flow_of (frame_at frames pair.0)) pair.1 pair.0) (hash_beside frames hashes are pair.0)
+
+  pub coming_turns : (pairs : List (ℕ × ℕ)) → map (coming frames) (map (turn_of hashes starts) pairs) ≡ map (coming_of frames starts) pairs
+  coming_turns [] = refl
+  coming_turns (pair ∷ pairs) =
+      ap (λ first. first ∷ map (coming frames) (map (turn_of hashes starts) pairs)) (coming_turn pair) ∙ ap (λ others. coming_of frames starts pair ∷ others) (coming_turns pairs)
+
+  -- and its hash is that of its flow
+  pub turns_hashed : (pairs : List (ℕ × ℕ)) → All (IsHashed frames) (map (turn_of hashes starts) pairs)
+  turns_hashed [] = All-nil (IsHashed frames)
+  turns_hashed (pair ∷ pairs) = All-cons (IsHashed frames) (turn_of hashes starts pair) (map (turn_of hashes starts) pairs) (hash_beside frames hashes are pair.0) (turns_hashed pairs)
 
 -- ---- one flow
 
@@ -92,11 +131,12 @@ order_between Equal Greater flow rest same low = low
 order_between Equal Equal flow rest same low = subst (λ o. is_lt (ordering_then o rest) ≡ false) (sym (same refl refl)) low
 
 -- of each and the next
-told_at : (frames : List (Bor (List ℕ))) (before : Turn) (others : List Turn) → AreToldBehind frames before others → (k : ℕ) (d : Turn) → suc k < length (before ∷ others)
-    → AreTold frames (get_or (before ∷ others) k d) (get_or (before ∷ others) (suc k) d)
-told_at frames before [] told k d below = absurd (omega (arith, below))
-told_at frames before (next ∷ others) told zero d below = told.0
-told_at frames before (next ∷ others) told (suc k) d below = told_at frames next others told.1 k d (omega (arith, below))
+told_at : (frames : List (Bor (List ℕ))) (turns : List Turn) → AreAllTold frames turns → (k : ℕ) (d : Turn) → suc k < length turns
+    → AreTold frames (get_or turns k d) (get_or turns (suc k) d)
+told_at frames [] told k d below = absurd (omega (arith, below))
+told_at frames (before ∷ []) told k d below = absurd (omega (arith, below))
+told_at frames (before ∷ (next ∷ others)) told zero d below = told.0
+told_at frames (before ∷ (next ∷ others)) told (suc k) d below = told_at frames (next ∷ others) told.1 k d (omega (arith, below))
 
 -- where each and the next of one savefile and hash are of one flow, the order by hashes alone is the order by flows
 pub told_sorted : (frames : List (Bor (List ℕ))) (turns : List Turn) → IsSorted turn_cmp turns → AreAllTold frames turns
@@ -106,7 +146,7 @@ told_sorted frames (first ∷ others) sorted told = λ k d from below.
     let a : Turn = get_or (first ∷ others) (k + 1) d in
     let b : Turn = get_or (first ∷ others) k d in
     let behind : suc k < length (first ∷ others) = omega (arith, below) in
-    let both : AreTold frames b a = subst (λ j. AreTold frames b (get_or (first ∷ others) j d)) (sym (add-one k)) (told_at frames first others told k d behind) in
+    let both : AreTold frames b a = subst (λ j. AreTold frames b (get_or (first ∷ others) j d)) (sym (add-one k)) (told_at frames (first ∷ others) told k d behind) in
     order_between (nat_cmp a.file b.file) (nat_cmp a.hash b.hash) (slice_cmp nat_cmp (flow_of (frame_at frames a.wanted)) (flow_of (frame_at frames b.wanted)))
     (ordering_then (nat_cmp a.got b.got) (nat_cmp a.wanted b.wanted))
     (λ file hash.

@@ -9,9 +9,10 @@ use Rattle.vg_match.specs.declared.keys.Likeness.TheVariants.{Flow}
 use Rattle.vg_match.specs.Keys.{joined, parts_of}
 use Rattle.vg_match.specs.Frames.{layout_of}
 use Rattle.vg_match.specs.Hashes.{hash_of}
+use Rattle.vg_match.specs.Sides.{seen}
 use Rattle.vg_diff.specs.declared.orders.Turn.{Turn}
 use Rattle.vg_diff.specs.declared.flows.FlowTurn.{FlowTurn}
-use Rattle.vg_diff.specs.Lines.{frame_at, file_of}
+use Rattle.vg_diff.specs.Lines.{number_at, frame_at, file_of}
 
 -- a packet that came: the savefile that it stands in, the hash of its flow, its flow, and its numbers among those that came and those that
 -- were wanted
@@ -26,6 +27,14 @@ pub record Coming : Type 0 where
 unfoldable pub flow_of : List ℕ → List ℕ
 flow_of frame = joined (parts_of Flow (layout_of frame)) frame
 
+-- the hash of a frame's flow
+abbrev pub flow_hash : List ℕ → ℕ
+flow_hash frame = hash_of (flow_of frame)
+
+-- these are the hashes of the frames' flows, in the order of the frames
+abbrev pub AreFlowHashes : (frames : List (Bor (List ℕ))) → List ℕ → Type 0
+AreFlowHashes frames hashes = hashes ≡ map flow_hash (seen frames)
+
 -- the packet of a pair
 abbrev pub coming_of : (frames : List (Bor (List ℕ))) → (starts : List ℕ) → ℕ × ℕ → Coming
 coming_of frames starts pair =
@@ -39,6 +48,10 @@ coming_with turn = record { file = turn.file; hash = turn.hash; flow = turn.flow
 abbrev pub coming : (frames : List (Bor (List ℕ))) → Turn → Coming
 coming frames turn =
     record { file = turn.file; hash = turn.hash; flow = flow_of (frame_at frames turn.wanted); got = turn.got; wanted = turn.wanted }
+
+-- the packet of a pair, as the code has it without its flow: the hash stands among those of the flows of all frames
+abbrev pub turn_of : (hashes starts : List ℕ) → ℕ × ℕ → Turn
+turn_of hashes starts pair = record { file = file_of starts pair.1; hash = number_at hashes pair.0; got = pair.1; wanted = pair.0 }
 
 -- the hash is that of the flow
 abbrev pub IsHashed : (frames : List (Bor (List ℕ))) → Turn → Type 0

@@ -1,8 +1,9 @@
 //! Which packets came in another order than that of their flow.
 ghost use Rattle.std.specs.Prelude.{◌≡◌, map, All, IfOk, IfSome, IsTrue};
-ghost use Rattle.vg_match.specs.Hashes.{hash_of as hash_of_bytes};
-ghost use Rattle.vg_diff.specs.Orders.{flow_of as flow_in, coming, coming_of, is_one_flow as is_in_one_flow, late as late_among, late_behind as late_among_others};
-ghost use Rattle.vg_diff.specs.Orders.{IsHashed, AreTold, AreToldBehind, AreAllTold, AreReordered};
+ghost use Rattle.vg_diff.specs.Lines.{number_at as hash_standing_at};
+ghost use Rattle.vg_diff.specs.Orders.{flow_of as flow_in, flow_hash as hash_of_flow, coming, turn_of as turn_of_pair, is_one_flow as is_in_one_flow};
+ghost use Rattle.vg_diff.specs.Orders.{late as late_among, late_behind as late_among_others};
+ghost use Rattle.vg_diff.specs.Orders.{IsHashed, AreFlowHashes, AreTold, AreToldBehind, AreAllTold, AreReordered};
 
 use crate::flows::reordered_by_flows;
 use crate::lines::{file_of, frame_at};
@@ -22,46 +23,64 @@ struct Turn {
 // The hash of what the frames of a flow have in common, which is put together in memory that each frame uses again.
 #[tactic(auto, unfolding(crate::specs::Orders::flow_of))]
 fn flow_hash(memory: &mut Vec<u8>, frame: &[u8]) -> Result<u64, AllocError>
-    ensures { IfOk result (λ hash. hash ≡ hash_of_bytes (flow_in frame.now)) }
+    ensures { IfOk result (λ hash. hash ≡ hash_of_flow frame.now) }
 {
     memory.clear();
     put_likeness(memory, Likeness::Flow, frame, frame)?;
     Ok(hash_of(memory.as_slice()))
 }
 
+/// The hash of the flow of each frame, in the order of the frames, in which they stand in memory.
+///
+/// # Errors
+///
+/// [`AllocError`] where memory runs out.
+pub fn flow_hashes(alloc: Global, frames: &[&[u8]]) -> Result<Vec<u64>, AllocError>
+    ensures { IfOk result (λ hashes. AreFlowHashes frames.now hashes.items) }
+{
+    let mut hashes = Vec::with_capacity(alloc, frames.len())?;
+    let mut memory = Vec::new(alloc);
+    for frame in frames {
+        hashes.push(flow_hash(&mut memory, frame)?)?;
+    }
+    Ok(hashes)
+}
+
+// The hash at a place, or that of no frame's flow behind the last.
+fn hash_at(hashes: &[u64], at: u32) -> u64
+    ensures { result ≡ hash_standing_at hashes.now at }
+{
+    match hashes.get(at as usize) {
+        Some(hash) => *hash,
+        None => 0,
+    }
+}
+
 // The packet of a pair.
-fn turn_of(
-    memory: &mut Vec<u8>,
-    pair: (u32, u32),
-    frames: &[&[u8]],
-    starts: &[u32],
-) -> Result<Turn, AllocError>
-    ensures coming { IfOk result (λ turn. coming frames.now turn ≡ coming_of frames.now starts.now pair) }
-    ensures hash { IfOk result (IsHashed frames.now) }
+fn turn_of(pair: (u32, u32), hashes: &[u64], starts: &[u32]) -> Turn
+    ensures { result ≡ turn_of_pair hashes.now starts.now pair }
 {
     let (wanted, got) = pair;
-    Ok(Turn {
+    Turn {
         file: file_of(starts, got),
-        hash: flow_hash(memory, frame_at(frames, wanted))?,
+        hash: hash_at(hashes, wanted),
         got,
         wanted,
-    })
+    }
 }
 
 // The packets of pairs.
 fn turns(
     alloc: Global,
     pairs: &[(u32, u32)],
-    frames: &[&[u8]],
+    hashes: &[u64],
     starts: &[u32],
 ) -> Result<Vec<Turn>, AllocError>
-    ensures coming { IfOk result (λ turns. map (coming frames.now) turns.items ≡ map (coming_of frames.now starts.now) pairs.now) }
-    ensures hashes { IfOk result (λ turns. All (IsHashed frames.now) turns.items) }
+    ensures { IfOk result (λ turns. turns.items ≡ map (turn_of_pair hashes.now starts.now) pairs.now) }
 {
     let mut turns = Vec::with_capacity(alloc, pairs.len())?;
-    let mut memory = Vec::new(alloc);
     for pair in pairs {
-        turns.push(turn_of(&mut memory, *pair, frames, starts)?)?;
+        turns.push(turn_of(*pair, hashes, starts))?;
     }
     Ok(turns)
 }
@@ -93,7 +112,7 @@ fn is_one_flow(one: &Turn, other: &Turn, frames: &[&[u8]]) -> Option<bool>
 
 // How many turns, in their order, stand behind one of the same savefile and flow that had to come later; the one before them. Nothing where
 // two flows have one hash.
-#[tactic(auto, using(crate::proofs::OrderLemmas::late_more_in))]
+#[tactic(auto, using(crate::proofs::OrderLemmas::late_more))]
 fn late_behind(first: Turn, others: &[Turn], frames: &[&[u8]]) -> Option<usize>
     requires first { IsHashed frames.now first }
     requires others { All (IsHashed frames.now) others.now }
@@ -143,12 +162,15 @@ pub fn reordered(
     alloc: Global,
     pairs: &[(u32, u32)],
     frames: &[&[u8]],
+    hashes: &[u64],
     starts: &[u32],
 ) -> Result<u64, AllocError>
+    requires { AreFlowHashes frames.now hashes.now }
     ensures { IfOk result (AreReordered frames.now starts.now pairs.now) }
 {
-    let mut turns = turns(alloc, pairs, frames, starts)?;
-    turns.sort()?;
+    let mut turns = turns(alloc, pairs, hashes, starts)?;
+    // No two are the same: they differ in their numbers.
+    turns.sort_unstable();
     match late(turns.as_slice(), frames) {
         Some(count) => Ok(count as u64),
         None => reordered_by_flows(alloc, pairs, frames, starts),

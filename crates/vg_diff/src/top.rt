@@ -1,11 +1,12 @@
 //! The top call.
 ghost use Rattle.std.specs.Prelude.{◌≡◌, ◌≢◌, ◌↔◌, ◌⊎◌, ℕ, ◌+◌, ◌≤◌, List, [], length, IfOk};
-ghost use Rattle.vg_match.specs.Diffs.{AllMatch};
+ghost use Rattle.vg_match.specs.Diffs.{AllMatch, IsDiff};
 ghost use Rattle.vg_match.specs.Sides.{seen};
 ghost use Rattle.vg_outside.specs.Files.{Rose};
 ghost use Rattle.vg_report.specs.Reading.{report_of};
 ghost use Rattle.vg_diff.specs.Dues.{IsFoundStatus, IsDueStatus};
 ghost use Rattle.vg_diff.specs.Matches.{AreMatches};
+ghost use Rattle.vg_diff.specs.Orders.{AreFlowHashes};
 ghost use Rattle.vg_diff.specs.Run.{packet_bytes, all_bytes, terms_of, IsAnswer, AnswersIn, Answers};
 
 use crate::answers::{Manner, text_of};
@@ -13,7 +14,7 @@ use crate::differences::{differences, frames_at, frames_in, frames_of, numbers_o
 use crate::input::{Input, load_input, load_plan, report_in};
 use crate::lines::Findings;
 use crate::linux::commands;
-use crate::orders::reordered;
+use crate::orders::{flow_hashes, reordered};
 use crate::printing::print;
 use crate::refusals::{Refusal, Stop};
 use crate::words::{Ask, WordsError, asked, script_of_router};
@@ -74,7 +75,8 @@ struct Matches {
     reordered: u64,
 }
 
-// What is found of frames and of those that were dropped.
+// What is found of frames and of those that were dropped. A thread of its own hashes the flows in the order of the frames, while the frames
+// are compared.
 fn matches_of<R: Threads>(
     rt: &R,
     alloc: Global,
@@ -85,8 +87,26 @@ fn matches_of<R: Threads>(
 ) -> Result<Matches, AllocError>
     ensures { IfOk result (AreMatches ignored.now only.now frames.now.wanted.now frames.now.got.now frames.now.starts.now (seen drops.now)) }
 {
-    let diff = differences(rt, alloc, frames.wanted, frames.got, drops, ignored, only)?;
-    let reordered = reordered(alloc, diff.same.as_slice(), frames.wanted, frames.starts)?;
+    let (wanted, got) = (frames.wanted, frames.got);
+    let (hashes, diff) = join(
+        rt,
+        ||
+            ensures { IfOk result (λ hashes. AreFlowHashes wanted.entry.now hashes.items) }
+        { flow_hashes(alloc, wanted) },
+        ||
+            ensures { IfOk result (IsDiff ignored.entry.now
+                (record { only = only.entry.now; wanted = seen wanted.entry.now; got = seen got.entry.now; dropped = seen drops.entry.now })) }
+        { differences(rt, alloc, wanted, got, drops, ignored, only) },
+    );
+    let diff = diff?;
+    let hashes = hashes?;
+    let reordered = reordered(
+        alloc,
+        diff.same.as_slice(),
+        wanted,
+        hashes.as_slice(),
+        frames.starts,
+    )?;
     Ok(Matches { diff, reordered })
 }
 
