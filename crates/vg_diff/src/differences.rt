@@ -6,7 +6,7 @@ ghost use Rattle.vg_match.specs.Diffs.{IsDiff};
 ghost use Rattle.vg_diff.specs.Run.{packet_bytes, all_bytes};
 
 use std::alloc::{AllocError, Global};
-use std::thread::Threads;
+use std::thread::{Threads, join};
 use vg_capture::Capture;
 use vg_match::{Diff, Field, Range, Side, compare, compared_all, fronts, views};
 use vg_model::Bytes;
@@ -48,7 +48,7 @@ pub fn frames_of<'a>(alloc: Global, captures: &'a [Capture]) -> Result<Vec<&'a [
 pub fn frames_in(alloc: Global, capture: &Capture) -> Result<Vec<&[u8]>, AllocError>
     ensures { IfOk result (λ frames. seen frames.items ≡ packet_bytes capture.now.packets) }
 {
-    let mut frames = Vec::new(alloc);
+    let mut frames = Vec::with_capacity(alloc, capture.packets.len())?;
     put_frames(&mut frames, capture)?;
     Ok(frames)
 }
@@ -122,6 +122,28 @@ fn compared_by<'k, R: Threads>(
     compare(rt, alloc, wanted, got, dropped, ignored, only)
 }
 
+// What the frames of both sides are compared by where nothing is ignored. A thread of its own looks at those of the first side.
+fn fronts_of_both<'f, R: Threads>(
+    rt: &R,
+    alloc: Global,
+    wanted: &[&'f [u8]],
+    got: &[&'f [u8]],
+) -> Result<(Vec<&'f [u8]>, Vec<&'f [u8]>), AllocError>
+    ensures wanted { IfOk result (λ both. seen both.0.items ≡ map (compared_bytes []) (seen wanted.now)) }
+    ensures got { IfOk result (λ both. seen both.1.items ≡ map (compared_bytes []) (seen got.now)) }
+{
+    let (first, second) = join(
+        rt,
+        ||
+            ensures { IfOk result (λ keys. seen keys.items ≡ map (compared_bytes []) (seen wanted.entry.now)) }
+        { fronts(alloc, wanted) },
+        ||
+            ensures { IfOk result (λ keys. seen keys.items ≡ map (compared_bytes []) (seen got.entry.now)) }
+        { fronts(alloc, got) },
+    );
+    Ok((first?, second?))
+}
+
 // How the packets of both sides differ where no field is ignored. Nothing is copied.
 fn whole_differences<'f, R: Threads>(
     rt: &R,
@@ -133,8 +155,7 @@ fn whole_differences<'f, R: Threads>(
 ) -> Result<Diff, AllocError>
     ensures { IfOk result (IsDiff [] (record { only = only.now; wanted = seen wanted.now; got = seen got.now; dropped = seen dropped.now })) }
 {
-    let wanted_keys = fronts(alloc, wanted)?;
-    let got_keys = fronts(alloc, got)?;
+    let (wanted_keys, got_keys) = fronts_of_both(rt, alloc, wanted, got)?;
     let dropped_keys = fronts(alloc, dropped)?;
     compared_by(
         rt,

@@ -138,6 +138,27 @@ struct Drops<'a> {
     numbers: &'a [u32],
 }
 
+// The report of a run, and the numbers of the packets that it says were transmitted.
+#[derive(Drop)]
+struct Account {
+    report: Report,
+    sent: Vec<u32>,
+}
+
+// The report of a run whose files were loaded.
+fn account_in<'a>(alloc: Global, input: &Input) -> Result<Account, Stop<'a>>
+    ensures { IfOk result (λ account. report_of input.now.text ≡ Ok account.report) }
+{
+    let report = match report_in(alloc, input) {
+        Ok(report) => report,
+        Err(stop) => return Err(stop),
+    };
+    match numbers_of(alloc, &report, true) {
+        Ok(sent) => Ok(Account { report, sent }),
+        Err(_) => Err(Stop::Memory),
+    }
+}
+
 // What is due for what is found of frames and of those that were dropped.
 fn due_of(
     alloc: Global,
@@ -145,13 +166,12 @@ fn due_of(
     frames: &Frames<'_>,
     drops: &Drops<'_>,
     matches: &Matches,
-    report: &Report,
+    account: &Account,
 ) -> Result<Due, AllocError>
     requires { AreMatches ask.now.ignored.items ask.now.only.items frames.now.wanted.now frames.now.got.now frames.now.starts.now (seen drops.now.frames.now) matches.now }
     ensures { IfOk result (λ due. IsAnswer (terms_of ask.now)
         (record { wanted = seen frames.now.wanted.now; got = seen frames.now.got.now; dropped = seen drops.now.frames.now }) due.status due.text.items) }
 {
-    let sent = numbers_of(alloc, report, true)?;
     let diff = &matches.diff;
     let wanted_noise = wanted_left_out(diff, frames.wanted.len());
     let got_noise = got_left_out(diff, frames.got.len());
@@ -160,11 +180,11 @@ fn due_of(
         reordered: matches.reordered,
         noise: (wanted_noise, got_noise),
         wanted: frames.wanted,
-        sent: sent.as_slice(),
+        sent: account.sent.as_slice(),
         got: frames.got,
         starts: frames.starts,
         dropped: drops.numbers,
-        report,
+        report: &account.report,
         ignored: ask.ignored.as_slice(),
     };
     let text = text_of(alloc, &found, ask.manner)?;
@@ -190,17 +210,17 @@ fn due_beside<'a, R: Threads + Sync>(
     let (wanted, got, starts) = (frames.wanted, frames.got, frames.starts);
     let ignored = ask.ignored.as_slice();
     let only = ask.only.as_slice();
-    let (matches, report) = join(
+    let (matches, account) = join(
         rt,
         ||
             ensures { IfOk result (AreMatches ignored.entry.now only.entry.now wanted.entry.now got.entry.now starts.entry.now []) }
         { matches_alone(rt, alloc, wanted, got, starts, ignored, only) },
         ||
-            ensures { IfOk result (λ report. report_of input.entry.now.text ≡ Ok report) }
-        { report_in(alloc, input) },
+            ensures { IfOk result (λ account. report_of input.entry.now.text ≡ Ok account.report) }
+        { account_in(alloc, input) },
     );
-    let report = match report {
-        Ok(report) => report,
+    let account = match account {
+        Ok(account) => account,
         Err(stop) => return Err(stop),
     };
     let Ok(matches) = matches else {
@@ -210,7 +230,7 @@ fn due_beside<'a, R: Threads + Sync>(
         frames: &[],
         numbers: &[],
     };
-    match due_of(alloc, ask, frames, &drops, &matches, &report) {
+    match due_of(alloc, ask, frames, &drops, &matches, &account) {
         Ok(due) => Ok(due),
         Err(_) => Err(Stop::Memory),
     }
@@ -222,13 +242,13 @@ fn due_with<R: Threads>(
     alloc: Global,
     ask: &Ask<'_>,
     frames: &Frames<'_>,
-    report: &Report,
+    account: &Account,
     capture: &Capture,
 ) -> Result<Due, AllocError>
     ensures { IfOk result (λ due. (dropped : List (List ℕ)) × IsAnswer (terms_of ask.now)
         (record { wanted = seen frames.now.wanted.now; got = seen frames.now.got.now; dropped = dropped }) due.status due.text.items) }
 {
-    let numbers = numbers_of(alloc, report, false)?;
+    let numbers = numbers_of(alloc, &account.report, false)?;
     let known = frames_at(alloc, capture, numbers.as_slice())?;
     let drops = Drops {
         frames: known.as_slice(),
@@ -242,7 +262,7 @@ fn due_with<R: Threads>(
         ask.ignored.as_slice(),
         ask.only.as_slice(),
     )?;
-    due_of(alloc, ask, frames, &drops, &matches, report)
+    due_of(alloc, ask, frames, &drops, &matches, account)
 }
 
 // What is due for frames of what was loaded, with the run's capture among it: the report says which of its packets were dropped, and is
@@ -259,11 +279,11 @@ fn due_behind<'a, R: Threads>(
     requires got { seen frames.now.got.now ≡ all_bytes input.now.others.items }
     ensures { IfOk result (AnswersIn (terms_of ask.now) input.now) }
 {
-    let report = match report_in(alloc, input) {
-        Ok(report) => report,
+    let account = match account_in(alloc, input) {
+        Ok(account) => account,
         Err(stop) => return Err(stop),
     };
-    match due_with(rt, alloc, ask, frames, &report, capture) {
+    match due_with(rt, alloc, ask, frames, &account, capture) {
         Ok(due) => Ok(due),
         Err(_) => Err(Stop::Memory),
     }

@@ -19,8 +19,8 @@ due_of-requires g c =
 
 pub returns-in-Ok-due_of : goal.returns-in-Ok-due_of
 returns-in-Ok-due_of g c = record {
-  report = c.in-Ok.report;
-  is_report = subst (λ r. IfOk r (λ report. report_of c.args.input.now.text ≡ Ok report)) c.in-Ok.is c.join-matches.ensures.second;
+  report = c.in-Ok.account.report;
+  is_report = subst (λ r. IfOk r (λ account. report_of c.args.input.now.text ≡ Ok account.report)) c.in-Ok.is c.join-matches.ensures.second;
   dropped = [];
   is_answer = answers_at (terms_of c.args.ask.now) _ _ _ _ _ c.in-Ok-due_of.due.status c.in-Ok-due_of.due.text.items c.requires.wanted c.requires.got c.in-Ok-due_of.ensures;
 }
