@@ -1,4 +1,4 @@
-//! Tests of drawings: graphs with nodes of all forms of kinds, and routes. The program's tests draw with reports that were read.
+//! Tests of drawings: graphs with nodes of all forms of kinds, and routes. The calls of `vgdraw` draw with reports that were read.
 
 use std::alloc::Global;
 use std::process::Abort;
@@ -75,7 +75,7 @@ fn drawn(
 }
 
 /// Whether these lines stand in a text, one behind the other.
-fn has(text: &[u8], lines: &str) -> bool {
+pub fn has(text: &[u8], lines: &str) -> bool {
     !lines.is_empty()
         && text
             .windows(lines.len())

@@ -1,5 +1,8 @@
-//! Tests of drawings, over the built libraries. They stand in a crate of tests alone, since a crate that has tests is proved twice.
+//! Tests of drawings and of the calls of `vgdraw`, over the built libraries. They stand in a crate of tests alone, since a crate that has tests
+//! is proved twice.
 #![tactic(auto)]
 
+#[cfg(test)]
+mod calls;
 #[cfg(test)]
 mod draw;

@@ -1,24 +1,11 @@
 //! `vgdraw`: the graph of a script as a picture in the DOT language of Graphviz.
-//!
-//! In which order to read: `top`, `words`, `reading`, `drawings`, `refusals`, `printing`; `explaining` by itself.
 #![tactic(auto)]
 
-pub mod drawings;
-pub mod explaining;
-pub mod printing;
-pub mod reading;
-pub mod refusals;
-#[cfg(test)]
-mod tests;
-pub mod top;
-pub mod words;
-
-use explaining::explain_drawing;
 use std::io::ErrorKind;
 use std::process::ExitCode;
 use std::rt::Env;
 use std::{env, io};
-use top::draw_run;
+use vg_drawing::{draw_run, explain_drawing};
 use vg_explain::{Keeping, explain_not_utf8};
 use vg_outside::{RealFolder, RealSink};
 
