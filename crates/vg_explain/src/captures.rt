@@ -65,58 +65,56 @@ pub fn capture_fault(
     place: &str,
     head: &[u8],
 ) -> Result<String, AllocError> {
-    let little = is_little(head);
     if is_text(head) {
         return String::from_str(
             alloc,
             "it is a text: are CAPTURE and SCRIPT exchanged? CAPTURE comes first\n",
         );
     }
-    if cause == "too-large" {
-        return String::from_str(
+    match cause {
+        "too-large" => String::from_str(
             alloc,
             "it has more than 16777216 bytes: `editcap -F pcap -c 1000 FILE NEW` splits it\n",
-        );
-    }
-    if cause == "not-pcap" {
-        let other = other_format(head);
-        return format!(in alloc; "{other}\n");
-    }
-    if cause == "version" {
-        let version = number_at(head, 4, false);
-        let first = version >> 16;
-        let second = version & 0xffff;
-        let (major, minor) = if little {
-            (swapped(first), swapped(second))
-        } else {
-            (first, second)
-        };
-        return format!(in alloc;
-            "it is of version {major}.{minor} of the format, and 2.4 is wanted: `editcap -F pcap FILE NEW` writes it anew\n"
-        );
-    }
-    if cause == "link-type" {
-        let link = number_at(head, 20, little);
-        return format!(in alloc;
-            "its link type is {link}, and 1, Ethernet, is wanted: capture on an Ethernet interface, or name the frames Ethernet by `editcap -F pcap -T ether FILE NEW` where they are\n"
-        );
-    }
-    if cause == "truncated" && head.is_empty() {
-        return String::from_str(alloc, "it is empty\n");
-    }
-    if cause == "truncated" {
-        return format!(in alloc;
+        ),
+        "not-pcap" => {
+            let other = other_format(head);
+            format!(in alloc; "{other}\n")
+        }
+        "version" => {
+            let (major, minor) = version_of(head);
+            format!(in alloc;
+                "it is of version {major}.{minor} of the format, and 2.4 is wanted: `editcap -F pcap FILE NEW` writes it anew\n"
+            )
+        }
+        "link-type" => {
+            let link = number_at(head, 20, is_little(head));
+            format!(in alloc;
+                "its link type is {link}, and 1, Ethernet, is wanted: capture on an Ethernet interface, or name the frames Ethernet by `editcap -F pcap -T ether FILE NEW` where they are\n"
+            )
+        }
+        "truncated" if head.is_empty() => String::from_str(alloc, "it is empty\n"),
+        "truncated" => format!(in alloc;
             "it ends within what begins at byte {place}: `editcap -F pcap FILE NEW` keeps the whole packets\n"
-        );
-    }
-    if cause == "record-too-long" {
-        return format!(in alloc;
+        ),
+        "record-too-long" => format!(in alloc;
             "the record at byte {place} says that more than 262144 bytes were captured: the file is damaged there\n"
-        );
+        ),
+        _ => format!(in alloc;
+            "its record at byte {place} is the 65537th: `editcap -F pcap -r FILE NEW 1-65536` keeps those before it\n"
+        ),
     }
-    format!(in alloc;
-        "its record at byte {place} is the 65537th: `editcap -F pcap -r FILE NEW 1-65536` keeps those before it\n"
-    )
+}
+
+/// The version of the format that a savefile says: its major and its minor number.
+fn version_of(head: &[u8]) -> (u32, u32) {
+    let version = number_at(head, 4, false);
+    let first = version >> 16;
+    let second = version & 0xffff;
+    if is_little(head) {
+        (swapped(first), swapped(second))
+    } else {
+        (first, second)
+    }
 }
 
 /// The two bytes of a number in the other order.

@@ -32,43 +32,24 @@ enum Follows {
     Number { least: u64, most: u64 },
 }
 
+impl Follows {
+    /// A number of this range.
+    fn number(least: u64, most: u64) -> Follows {
+        Follows::Number { least, most }
+    }
+}
+
 /// What follows an option of this name of a command, where it has such an option.
 fn option_named(command: &str, name: &str) -> Option<Follows> {
-    if name == "queue" {
-        return Some(Follows::Number {
-            least: 1,
-            most: MOST_SLOTS,
-        });
-    }
-    if command != "run" {
-        return None;
-    }
-    if name == "workers" {
-        Some(Follows::Number {
-            least: 1,
-            most: MOST_WORKERS as u64,
-        })
-    } else if name == "buffers" {
-        Some(Follows::Number {
-            least: 512,
-            most: MOST_BUFFERS as u64,
-        })
-    } else if name == "burst" {
-        Some(Follows::Number {
-            least: 1,
-            most: FRAME_SIZE as u64,
-        })
-    } else if name == "trace" {
-        Some(Follows::Number {
-            least: 0,
-            most: MOST_TRACED as u64,
-        })
-    } else if name == "turns" {
-        Some(Follows::Name)
-    } else if name == "hold" {
-        Some(Follows::Nothing)
-    } else {
-        None
+    match (command, name) {
+        (_, "queue") => Some(Follows::number(1, MOST_SLOTS)),
+        ("run", "workers") => Some(Follows::number(1, MOST_WORKERS as u64)),
+        ("run", "buffers") => Some(Follows::number(512, MOST_BUFFERS as u64)),
+        ("run", "burst") => Some(Follows::number(1, FRAME_SIZE as u64)),
+        ("run", "trace") => Some(Follows::number(0, MOST_TRACED as u64)),
+        ("run", "turns") => Some(Follows::Name),
+        ("run", "hold") => Some(Follows::Nothing),
+        _ => None,
     }
 }
 
@@ -88,13 +69,7 @@ fn number(word: &str) -> Option<u64> {
 pub fn asks_for_help(words: &[&str]) -> bool {
     match words.first() {
         None => true,
-        Some(first) => {
-            *first == "--help"
-                || *first == "-h"
-                || *first == "help"
-                || *first == "--version"
-                || *first == "-V"
-        }
+        Some(first) => matches!(*first, "--help" | "-h" | "help" | "--version" | "-V"),
     }
 }
 
@@ -336,14 +311,11 @@ pub fn words_fault(alloc: Global, words: &[&str]) -> Result<String, AllocError> 
     let Some((command, others)) = words.split_first() else {
         return String::from_str(alloc, "no command is given\n");
     };
-    let fault = if *command == "run" {
-        options_fault(alloc, "run", others, 3)?
-    } else if *command == "check" {
-        options_fault(alloc, "check", others, 4)?
-    } else if *command == "load" {
-        numbers_fault(alloc, others)?
-    } else {
-        Some(format!(in alloc; "`{command}` is no command\n")?)
+    let fault = match *command {
+        "run" => options_fault(alloc, "run", others, 3)?,
+        "check" => options_fault(alloc, "check", others, 4)?,
+        "load" => numbers_fault(alloc, others)?,
+        _ => Some(format!(in alloc; "`{command}` is no command\n")?),
     };
     match fault {
         Some(fault) => Ok(fault),

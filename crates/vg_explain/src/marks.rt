@@ -2,6 +2,7 @@
 
 use crate::statements::{Wanted, is_as_wanted, is_statement, wanted_at};
 use std::alloc::{AllocError, Global};
+use std::str;
 
 /// A word of a line: where it begins, and where it ends.
 #[derive(Clone, Copy, Debug)]
@@ -45,6 +46,11 @@ pub fn words_of(alloc: Global, line: &[u8]) -> Result<Vec<Place>, AllocError> {
 /// The bytes of a word.
 pub fn bytes_at<'a>(line: &'a [u8], place: Place) -> &'a [u8] {
     line.get(place.begin..place.end).unwrap_or(&[])
+}
+
+/// The text of a word; none where it isn't UTF-8.
+pub fn text_at<'a>(line: &'a [u8], place: Place) -> &'a str {
+    str::from_utf8(bytes_at(line, place)).unwrap_or("")
 }
 
 /// The line of a number, counted from 1, without its line feed.
@@ -94,32 +100,22 @@ fn speaks_of(cause: &str, wanted: Wanted) -> bool {
 }
 
 /// The place of the word that an edit is refused for, in its statement.
-fn place_of_edit(statement: &[u8], cause: &str) -> usize {
-    if cause == "unknown-slot" {
-        2
-    } else if cause == "bad-target"
-        || cause == "cycle"
-        || cause == "unknown-interface"
-        || cause == "unknown-adjacency"
-    {
-        3
-    } else if cause == "block" {
-        0
-    } else if cause == "too-many-generations" && statement == b"process".as_slice() {
-        5
-    } else {
-        1
+fn place_of_edit(statement: &str, cause: &str) -> usize {
+    match (cause, statement) {
+        ("unknown-slot", _) => 2,
+        ("bad-target" | "cycle" | "unknown-interface" | "unknown-adjacency", _) => 3,
+        ("block", _) => 0,
+        ("too-many-generations", "process") => 5,
+        _ => 1,
     }
 }
 
 /// Whether a cause is one of a line's words as they are spelled.
 fn is_of_spelling(cause: &str) -> bool {
-    cause == "word"
-        || cause == "name"
-        || cause == "mac"
-        || cause == "prefix"
-        || cause == "kind"
-        || cause == "number"
+    matches!(
+        cause,
+        "word" | "name" | "mac" | "prefix" | "kind" | "number"
+    )
 }
 
 /// Where a line is refused: the first word that the cause speaks of, the byte that no script has, or the end where a word is missing.
@@ -134,7 +130,7 @@ pub fn refused_at(line: &[u8], words: &[Place], cause: &str) -> Place {
     let Some(first) = words.first() else {
         return end;
     };
-    let statement = bytes_at(line, *first);
+    let statement = text_at(line, *first);
     if !is_statement(statement) {
         return *first;
     }
@@ -144,7 +140,7 @@ pub fn refused_at(line: &[u8], words: &[Place], cause: &str) -> Place {
             .copied()
             .unwrap_or(*first);
     }
-    let mut before = statement;
+    let mut before = bytes_at(line, *first);
     for (place, word) in words.iter().enumerate().skip(1) {
         let wanted = wanted_at(statement, place, before);
         let word_bytes = bytes_at(line, *word);

@@ -1,7 +1,7 @@
 //! What is wrong with a script, and its line with a mark under the word that is refused.
 
 use crate::captures::{is_pcapng, is_savefile};
-use crate::marks::{Place, bytes_at, line_of, refused_at, words_of};
+use crate::marks::{Place, bytes_at, line_of, refused_at, text_at, words_of};
 use crate::nodes::{Missing, missing_node};
 use crate::statements::is_route;
 use std::alloc::{AllocError, Global};
@@ -14,47 +14,39 @@ use vg_model::limits::{LEAST_VLAN, MOST_INTERFACES, MOST_VLAN};
 const MOST_SHOWN: usize = 160;
 
 /// How a statement is written, by its first word.
-fn form_of(statement: &[u8]) -> &'static str {
-    if statement == b"interface".as_slice() {
-        "an interface is written `interface NAME mac MAC mtu NUMBER up` or `down`, then `filter` or nothing"
-    } else if statement == b"node".as_slice() {
-        "a node is written `node NAME kind KIND`"
-    } else if statement == b"arc".as_slice() {
-        "an arc is written `arc NODE SLOT TARGET`"
-    } else if statement == b"adjacency".as_slice() {
-        "a neighbor is written `adjacency NAME interface NAME dst MAC`"
-    } else if statement == b"route".as_slice() {
-        "a route is written `route PREFIX via NAMES`, `route PREFIX local` or `route PREFIX drop`"
-    } else if statement == b"unroute".as_slice() {
-        "a route is taken away by `unroute PREFIX`"
-    } else if statement == b"route6".as_slice() {
-        "an IPv6 route is written `route6 PREFIX6 via NAMES`, `route6 PREFIX6 local` or `route6 PREFIX6 drop`"
-    } else if statement == b"unroute6".as_slice() {
-        "an IPv6 route is taken away by `unroute6 PREFIX6`"
-    } else if statement == b"at".as_slice() {
-        "a block at a time is begun by `at MICROSECONDS`"
-    } else if statement == b"process".as_slice() {
-        "a process is begun by `process NAME every MICROSECONDS count NUMBER`"
-    } else if statement == b"then".as_slice() || statement == b"end".as_slice() {
-        "`then` and `end` stand alone on their line"
-    } else {
-        "a line begins with interface, node, arc, adjacency, route, unroute, route6, unroute6, at, process, then or end"
+fn form_of(statement: &str) -> &'static str {
+    match statement {
+        "interface" =>
+            "an interface is written `interface NAME mac MAC mtu NUMBER up` or `down`, then `filter` or nothing",
+        "node" => "a node is written `node NAME kind KIND`",
+        "arc" => "an arc is written `arc NODE SLOT TARGET`",
+        "adjacency" => "a neighbor is written `adjacency NAME interface NAME dst MAC`",
+        "route" =>
+            "a route is written `route PREFIX via NAMES`, `route PREFIX local` or `route PREFIX drop`",
+        "unroute" => "a route is taken away by `unroute PREFIX`",
+        "route6" =>
+            "an IPv6 route is written `route6 PREFIX6 via NAMES`, `route6 PREFIX6 local` or `route6 PREFIX6 drop`",
+        "unroute6" => "an IPv6 route is taken away by `unroute6 PREFIX6`",
+        "at" => "a block at a time is begun by `at MICROSECONDS`",
+        "process" => "a process is begun by `process NAME every MICROSECONDS count NUMBER`",
+        "then" | "end" => "`then` and `end` stand alone on their line",
+        _ =>
+            "a line begins with interface, node, arc, adjacency, route, unroute, route6, unroute6, at, process, then or end",
     }
 }
 
 /// The range of a number in a statement.
-fn range_of(statement: &[u8]) -> &'static str {
-    if statement == b"interface".as_slice() {
-        "an mtu is a number from 68 to 65535"
-    } else if statement == b"at".as_slice() {
-        "a time is a number of microseconds from 0 to 1000000000000"
-    } else {
-        "a period is a number of microseconds from 1 to 1000000000000, and a count from 1 to 999"
+fn range_of(statement: &str) -> &'static str {
+    match statement {
+        "interface" => "an mtu is a number from 68 to 65535",
+        "at" => "a time is a number of microseconds from 0 to 1000000000000",
+        _ =>
+            "a period is a number of microseconds from 1 to 1000000000000, and a count from 1 to 999",
     }
 }
 
 /// What a name is, or the names of a route.
-fn name_sentence(statement: &[u8]) -> &'static str {
+fn name_sentence(statement: &str) -> &'static str {
     if is_route(statement) {
         "a route leads via 1 to 16 names parted by `,` without blanks, each of 1 to 32 letters, digits, `-`, `_` and `.`"
     } else {
@@ -63,8 +55,8 @@ fn name_sentence(statement: &[u8]) -> &'static str {
 }
 
 /// What a prefix is, of IPv4 or of IPv6.
-fn prefix_sentence(statement: &[u8]) -> &'static str {
-    if statement == b"route6".as_slice() || statement == b"unroute6".as_slice() {
+fn prefix_sentence(statement: &str) -> &'static str {
+    if matches!(statement, "route6" | "unroute6") {
         "an IPv6 prefix is eight groups of 1 to 4 hexadecimal digits parted by `:`, where `::` may stand once for groups that are 0, then `/` and 0 to 128, with no bit set behind that length, as 2001:db8::/32"
     } else {
         "a prefix is four numbers up to 255 parted by `.`, then `/` and 0 to 32, with no bit set behind that length, as 10.1.0.0/16"
@@ -72,25 +64,19 @@ fn prefix_sentence(statement: &[u8]) -> &'static str {
 }
 
 /// The sentence for a cause other than `kind`, by the first word of the line and the word that is marked.
-fn sentence(cause: &str, statement: &[u8], word: &[u8]) -> &'static str {
-    if cause == "word" {
-        form_of(statement)
-    } else if cause == "number" {
-        range_of(statement)
-    } else if cause == "too-large" {
-        "it has more than 262144 bytes"
-    } else if cause == "name" {
-        name_sentence(statement)
-    } else if cause == "mac" {
-        "an address is six pairs of hexadecimal digits parted by `:`, as 02:fe:00:00:00:00"
-    } else if cause == "prefix" {
-        prefix_sentence(statement)
-    } else if cause == "block" {
-        "`at` and `process` begin a block, which `end` closes before another begins and before the script ends; `then` stands only in a process"
-    } else if cause == "too-many-generations" {
-        "all runs of all blocks together are 999 at most"
-    } else {
-        edit_sentence(cause, word)
+fn sentence(cause: &str, statement: &str, word: &[u8]) -> &'static str {
+    match cause {
+        "word" => form_of(statement),
+        "number" => range_of(statement),
+        "too-large" => "it has more than 262144 bytes",
+        "name" => name_sentence(statement),
+        "mac" =>
+            "an address is six pairs of hexadecimal digits parted by `:`, as 02:fe:00:00:00:00",
+        "prefix" => prefix_sentence(statement),
+        "block" =>
+            "`at` and `process` begin a block, which `end` closes before another begins and before the script ends; `then` stands only in a process",
+        "too-many-generations" => "all runs of all blocks together are 999 at most",
+        _ => edit_sentence(cause, word),
     }
 }
 
@@ -138,24 +124,21 @@ fn missing_sentence(missing: Missing) -> &'static str {
 
 /// The sentence for an edit that can't be made, by the word that is marked.
 fn edit_sentence(cause: &str, word: &[u8]) -> &'static str {
-    if cause == "double-name" {
-        "a node has this name already"
-    } else if cause == "unknown-slot" {
-        "the kind of this node has no such slot: docs/FORMATS.md lists the slots of the kinds"
-    } else if cause == "bad-target" {
-        "no arc leads to this node: packets begin their ways there"
-    } else if cause == "cycle" {
-        "over this arc a packet could come back to where it was"
-    } else if cause == "too-many" {
-        "there are as many as may be: 64 nodes, 16 interfaces, 256 neighbors, 4096 routes of IPv4 and 4096 of IPv6"
-    } else if cause == "unknown-interface" {
-        "no interface has this name here: an interface is made above its first use"
-    } else if cause == "unknown-adjacency" && word.contains(&b',') {
-        "one of these names is no neighbor's here: `adjacency` makes a neighbor above its first use"
-    } else if cause == "unknown-adjacency" {
-        "no neighbor has this name here: `adjacency` makes one above its first use"
-    } else {
-        "there is no route with this very prefix"
+    match cause {
+        "double-name" => "a node has this name already",
+        "unknown-slot" =>
+            "the kind of this node has no such slot: docs/FORMATS.md lists the slots of the kinds",
+        "bad-target" => "no arc leads to this node: packets begin their ways there",
+        "cycle" => "over this arc a packet could come back to where it was",
+        "too-many" =>
+            "there are as many as may be: 64 nodes, 16 interfaces, 256 neighbors, 4096 routes of IPv4 and 4096 of IPv6",
+        "unknown-interface" =>
+            "no interface has this name here: an interface is made above its first use",
+        "unknown-adjacency" if word.contains(&b',') =>
+            "one of these names is no neighbor's here: `adjacency` makes a neighbor above its first use",
+        "unknown-adjacency" =>
+            "no neighbor has this name here: `adjacency` makes one above its first use",
+        _ => "there is no route with this very prefix",
     }
 }
 
@@ -205,7 +188,7 @@ fn push_mark(out: &mut String, line: &[u8], word: Place) -> Result<(), AllocErro
 /// The sentence for a cause, by the script, the line, and what is marked in it.
 fn sentence_of(
     cause: &str,
-    statement: &[u8],
+    statement: &str,
     text: &[u8],
     line: &[u8],
     refused: Place,
@@ -241,8 +224,8 @@ pub fn script_fault(
     let line = line_of(text, number);
     let words = words_of(alloc, line)?;
     let statement = match words.first() {
-        Some(first) => bytes_at(line, *first),
-        None => &[],
+        Some(first) => text_at(line, *first),
+        None => "",
     };
     let mut refused = refused_at(line, words.as_slice(), cause);
     let mut out = String::new(alloc);

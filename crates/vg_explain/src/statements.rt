@@ -91,59 +91,32 @@ const STATEMENTS: [&str; 12] = [
 ];
 
 /// Whether a statement begins with this word.
-pub fn is_statement(word: &[u8]) -> bool {
-    STATEMENTS
-        .iter()
-        .any(|statement| statement.as_bytes() == word)
+pub fn is_statement(word: &str) -> bool {
+    STATEMENTS.iter().any(|statement| *statement == word)
 }
 
 /// Whether a statement sets a route, of IPv4 or of IPv6.
-pub fn is_route(statement: &[u8]) -> bool {
-    statement == b"route".as_slice() || statement == b"route6".as_slice()
-}
-
-/// Whether a statement takes a route away, of IPv4 or of IPv6.
-fn is_unroute(statement: &[u8]) -> bool {
-    statement == b"unroute".as_slice() || statement == b"unroute6".as_slice()
+pub fn is_route(statement: &str) -> bool {
+    matches!(statement, "route" | "route6")
 }
 
 /// What is wanted at a place of the statement that begins with this word, behind the word before that place; its own place is 0.
-pub fn wanted_at(statement: &[u8], place: usize, before: &[u8]) -> Wanted {
-    if statement == b"interface".as_slice() {
-        of_interface(place)
-    } else if statement == b"adjacency".as_slice() {
-        of_adjacency(place)
-    } else if statement == b"process".as_slice() {
-        of_process(place)
-    } else if statement == b"node".as_slice() {
-        match place {
-            1 => Wanted::Name,
-            2 => Wanted::Word("kind"),
-            3 => Wanted::Kind,
-            _ => Wanted::Nothing,
-        }
-    } else if statement == b"arc".as_slice() {
-        match place {
-            1 | 2 | 3 => Wanted::Name,
-            _ => Wanted::Nothing,
-        }
-    } else if is_route(statement) {
-        of_route(place, before)
-    } else if is_unroute(statement) {
-        match place {
-            1 => Wanted::Prefix,
-            _ => Wanted::Nothing,
-        }
-    } else if statement == b"at".as_slice() {
-        match place {
-            1 => Wanted::Number {
-                least: 0,
-                most: LONGEST_TIME,
-            },
-            _ => Wanted::Nothing,
-        }
-    } else {
-        Wanted::Nothing
+pub fn wanted_at(statement: &str, place: usize, before: &[u8]) -> Wanted {
+    match (statement, place) {
+        ("interface", _) => of_interface(place),
+        ("adjacency", _) => of_adjacency(place),
+        ("process", _) => of_process(place),
+        ("route" | "route6", _) => of_route(place, before),
+        ("unroute" | "unroute6", 1) => Wanted::Prefix,
+        ("node", 1) => Wanted::Name,
+        ("node", 2) => Wanted::Word("kind"),
+        ("node", 3) => Wanted::Kind,
+        ("arc", 1 | 2 | 3) => Wanted::Name,
+        ("at", 1) => Wanted::Number {
+            least: 0,
+            most: LONGEST_TIME,
+        },
+        _ => Wanted::Nothing,
     }
 }
 
@@ -165,16 +138,16 @@ fn is_number(word: &[u8], least: u64, most: u64) -> bool {
 }
 
 /// Whether a word is one of the choices at this place of a statement.
-fn is_choice(statement: &[u8], word: &[u8]) -> bool {
+fn is_choice(statement: &str, word: &[u8]) -> bool {
     if is_route(statement) {
-        word == b"via".as_slice() || word == b"local".as_slice() || word == b"drop".as_slice()
+        matches!(word, b"via" | b"local" | b"drop")
     } else {
-        word == b"up".as_slice() || word == b"down".as_slice()
+        matches!(word, b"up" | b"down")
     }
 }
 
 /// Whether a word may stand where a name, a number or a fixed word is wanted; of the other kinds of words a statement has one.
-pub fn is_as_wanted(statement: &[u8], wanted: Wanted, word: &[u8]) -> bool {
+pub fn is_as_wanted(statement: &str, wanted: Wanted, word: &[u8]) -> bool {
     match wanted {
         Wanted::Word(fixed) => word == fixed.as_bytes(),
         Wanted::Choice => is_choice(statement, word),

@@ -2,14 +2,13 @@
 
 /// The sentence for a report that is refused, by the cause that was printed.
 pub fn report_fault(cause: &str) -> &'static str {
-    if cause == "form" {
-        "no such line may stand here: a word is missing, too many or another, or the report ends too early"
-    } else if cause == "number" {
-        "a number isn't in decimal digits without leading zeros, or is out of its range"
-    } else if cause == "unknown" {
-        "a name isn't declared above, or stands twice, or there is no such error"
-    } else {
-        "a running number or an error isn't the next"
+    match cause {
+        "form" =>
+            "no such line may stand here: a word is missing, too many or another, or the report ends too early",
+        "number" =>
+            "a number isn't in decimal digits without leading zeros, or is out of its range",
+        "unknown" => "a name isn't declared above, or stands twice, or there is no such error",
+        _ => "a running number or an error isn't the next",
     }
 }
 
