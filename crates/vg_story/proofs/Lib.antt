@@ -3,3 +3,4 @@ pub mod FrontLemmas
 pub mod WriteLemmas
 pub mod ThereLemmas
 pub mod LawLemmas
+pub mod MatchLemmas

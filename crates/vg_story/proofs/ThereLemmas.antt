@@ -96,21 +96,21 @@ lookup4_there : (stage : Stage) (f : Front) (step : Step) (after : Packet) → A
 lookup4_there stage f step after =
     let g = stage.fork.graph in
     let address = fields.destination f in
-    let route = matched (matched_in stage.routes.items address) in
+    let route = matched (matched_in stage.routes address) in
     let target = best_route g.routes address in
     let hash = flow_hash Flow f.bytes in
     either g (drops step errors.Unchecked) [] _ refl
-    (both g route (chosen g target hash after.adjacency) (matched_there g (matched_in stage.routes.items address)) (chosen_there g target hash after.adjacency))
+    (both g route (chosen g target hash after.adjacency) (matched_there g (matched_in stage.routes address)) (chosen_there g target hash after.adjacency))
 
 lookup6_there : (stage : Stage) (f : Front) (step : Step) (after : Packet) → AreThere stage.fork.graph (lookup6 stage f step after)
 lookup6_there stage f step after =
     let g = stage.fork.graph in
     let address = fields.destination6 f in
-    let route = matched6 (matched6_in stage.routes6.items address) in
+    let route = matched6 (matched6_in stage.routes6 address) in
     let target = best_route6 g.routes6 address in
     let hash = fields.hash6 f in
     either g (drops step errors.Unchecked) [] _ refl
-    (both g route (chosen g target hash after.adjacency) (matched6_there g (matched6_in stage.routes6.items address)) (chosen_there g target hash after.adjacency))
+    (both g route (chosen g target hash after.adjacency) (matched6_there g (matched6_in stage.routes6 address)) (chosen_there g target hash after.adjacency))
 
 takes_there : (g : Graph) (n : ℕ) (o : Option Interface) → slice_get g.interfaces n ≡ o → AreThere g (takes n o)
 takes_there g n None is = refl

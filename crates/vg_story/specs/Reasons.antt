@@ -117,7 +117,7 @@ lookup4 stage f step after =
     let address = fields.destination f in
     if drops step errors.Unchecked then []
     else fact words.To (values.Address address)
-    ++ (matched (matched_in stage.routes.items address)
+    ++ (matched (matched_in stage.routes address)
     ++ chosen stage.fork.graph (best_route stage.fork.graph.routes address) (flow_hash Flow f.bytes) after.adjacency)
 
 -- the same of an IPv6 look-up
@@ -126,7 +126,7 @@ lookup6 stage f step after =
     let address = fields.destination6 f in
     if drops step errors.Unchecked then []
     else fact words.To (values.Address6 address)
-    ++ (matched6 (matched6_in stage.routes6.items address)
+    ++ (matched6 (matched6_in stage.routes6 address)
     ++ chosen stage.fork.graph (best_route6 stage.fork.graph.routes6 address) (fields.hash6 f) after.adjacency)
 
 -- an interface, and what it takes, where the graph has it

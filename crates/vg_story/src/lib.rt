@@ -4,8 +4,8 @@
 //! failed and the value found, the route that matched, the neighbor chosen), and each field of the frame that it changed. [`put_pieces`]
 //! writes them.
 //!
-//! In which order to read: `pieces` and `stages`, `fronts` with `numbers` and `fields`, `changes`, `matches`, `reasons`, `chains`, `visits`; `words` and
-//! `writing` by themselves; then `laws`.
+//! In which order to read: `pieces`, `matches` with `matches6`, and `stages`; `fronts` with `numbers` and `fields`, `changes`, `reasons`, `chains`,
+//! `visits`; `words` and `writing` by themselves; then `laws`.
 #![tactic(auto)]
 
 mod chains;
@@ -14,6 +14,7 @@ mod fields;
 mod fronts;
 pub mod laws;
 mod matches;
+mod matches6;
 mod numbers;
 mod pieces;
 mod reasons;
@@ -23,7 +24,8 @@ mod words;
 mod writing;
 
 pub use chains::Chain;
-pub use matches::{matched4, matched6};
+pub use matches::{RouteIndex, matched4};
+pub use matches6::{RouteIndex6, matched6};
 pub use pieces::{Fact, Field, Piece, Value, Word};
 pub use stages::Stage;
 pub use visits::put_visits;

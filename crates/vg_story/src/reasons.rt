@@ -9,7 +9,8 @@ use crate::fields::{
     time_to_live, total_len, type_of, version, vlan,
 };
 use crate::fronts::Front;
-use crate::matches::{matched4, matched6};
+use crate::matches::matched4;
+use crate::matches6::matched6;
 use crate::numbers::number48;
 use crate::pieces::{Fact, Piece, Value, Word};
 use crate::stages::Stage;
@@ -226,7 +227,7 @@ fn put_lookup4(
     }
     let address = destination(before);
     put_fact(pieces, Word::To, Value::Address(address))?;
-    put_matched(pieces, matched4(stage.routes.as_slice(), address))?;
+    put_matched(pieces, matched4(&stage.routes, address))?;
     let hash = flow_hash(HashKind::Flow, before.bytes());
     put_chosen(
         pieces,
@@ -252,7 +253,7 @@ fn put_lookup6(
     }
     let address = destination6(before);
     put_fact(pieces, Word::To, Value::Address6(address))?;
-    put_matched6(pieces, matched6(stage.routes6.as_slice(), address))?;
+    put_matched6(pieces, matched6(&stage.routes6, address))?;
     put_chosen(
         pieces,
         &stage.fork,

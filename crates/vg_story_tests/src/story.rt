@@ -1,4 +1,6 @@
 //! Packets that are taken through the nodes of a small graph, shown as pieces and as text.
+ghost use Rattle.vg_model.specs.Route.{ip4, ip6};
+ghost use Rattle.vg_story.specs.Matches.{HasOneLineEach};
 
 use crate::checks::{holds, same};
 use std::alloc::Global;
@@ -14,8 +16,8 @@ use vg_model::{
 };
 use vg_nodes::Ip4Kinds;
 use vg_story::{
-    Chain, Fact, Field, Piece, Stage, Value, Word, laws, matched4, matched6, put, put_decimal,
-    put_interface, put_node, put_pieces, put_value, put_visits,
+    Chain, Fact, Field, Piece, RouteIndex, RouteIndex6, Stage, Value, Word, laws, matched4,
+    matched6, put, put_decimal, put_interface, put_node, put_pieces, put_value, put_visits,
 };
 
 // All kinds of nodes.
@@ -130,12 +132,28 @@ fn fork_of(rt: &impl Abort, alloc: Global, graph: &Graph) -> Fork {
     Fork::of(alloc, graph, &fib, &fib6, 0).expect(rt, "memory")
 }
 
+// These routes, to be searched.
+fn index_of(rt: &impl Abort, alloc: Global, routes: &[(Prefix, u32)]) -> RouteIndex
+    requires { HasOneLineEach ip4 routes.now }
+{
+    let routes = Vec::from_slice(alloc, routes).expect(rt, "memory");
+    RouteIndex::of(alloc, routes).expect(rt, "memory")
+}
+
+// The same for IPv6.
+fn index6_of(rt: &impl Abort, alloc: Global, routes: &[(Prefix6, u32)]) -> RouteIndex6
+    requires { HasOneLineEach ip6 routes.now }
+{
+    let routes = Vec::from_slice(alloc, routes).expect(rt, "memory");
+    RouteIndex6::of(alloc, routes).expect(rt, "memory")
+}
+
 // Its generation: the routes were set in the lines 7, 8 and 9.
 fn stage_of(rt: &impl Abort, alloc: Global, graph: &Graph) -> Stage {
     Stage {
         fork: fork_of(rt, alloc, graph),
-        routes: Vec::from_slice(alloc, &[(TEN_ONE, 7)]).expect(rt, "memory"),
-        routes6: Vec::from_slice(alloc, &[(EVERYWHERE6, 8), (SITE, 9)]).expect(rt, "memory"),
+        routes: index_of(rt, alloc, &[(TEN_ONE, 7)]),
+        routes6: index6_of(rt, alloc, &[(EVERYWHERE6, 8), (SITE, 9)]),
     }
 }
 
@@ -215,15 +233,24 @@ fn because(word: Word, value: Value) -> Piece {
 
 #[test]
 fn the_longest_prefix_matches_with_its_line(rt: HostRuntime) {
-    let routes = [(EVERYWHERE, 5), (TEN_ONE, 7), (TEN, 6)];
+    let alloc = rt.alloc();
+    let routes = index_of(&rt, alloc, &[(EVERYWHERE, 5), (TEN_ONE, 7), (TEN, 6)]);
     same(&rt, matched4(&routes, 0x0a01_0203), Some((TEN_ONE, 7)));
     same(&rt, matched4(&routes, 0x0a02_0203), Some((TEN, 6)));
     same(&rt, matched4(&routes, 0xc000_0201), Some((EVERYWHERE, 5)));
-    same(&rt, matched4(&routes[1..], 0xc000_0201), None);
-    let routes6 = [(SITE, 3), (EVERYWHERE6, 2)];
+    same(
+        &rt,
+        routes.as_slice().first().copied(),
+        Some((EVERYWHERE, 5)),
+    );
+    let inner = index_of(&rt, alloc, &[(TEN_ONE, 7), (TEN, 6)]);
+    same(&rt, matched4(&inner, 0xc000_0201), None);
+    let routes6 = index6_of(&rt, alloc, &[(SITE, 3), (EVERYWHERE6, 2)]);
     same(&rt, matched6(&routes6, HOST), Some((SITE, 3)));
     same(&rt, matched6(&routes6, 1), Some((EVERYWHERE6, 2)));
-    same(&rt, matched6(&routes6[..1], 1), None);
+    same(&rt, routes6.as_slice().first().copied(), Some((SITE, 3)));
+    let inner6 = index6_of(&rt, alloc, &[(SITE, 3)]);
+    same(&rt, matched6(&inner6, 1), None);
 }
 
 #[test]

@@ -7,6 +7,10 @@ use Rattle.std.specs.Ordering.{is_eq, ordering_then, nat_cmp}
 use Rattle.std.proofs.lemmas.Bool.Decides.{nat_tests}
 use Rattle.std.proofs.lemmas.Grind.{flat_map-append}
 use Rattle.std.proofs.lemmas.List.{take_more, take_all}
+use Rattle.std.proofs.lemmas.List.Elements.{All-map}
+use Rattle.vg_fib.proofs.PrefixLemmas.{ArePrefixes}
+use Rattle.vg_story.specs.Matches.{HasOneLineEach}
+use Rattle.vg_story.proofs.MatchLemmas.{one_line_each}
 use Rattle.vg_ways.proofs.ReadLemmas.{IsRead, take_read}
 use Rattle.vg_model.specs.declared.edits.Edit.{Edit}
 use Rattle.vg_model.specs.declared.edits.Edit.TheVariants as edits
@@ -15,6 +19,7 @@ use Rattle.vg_model.specs.declared.routes.Prefix.{Prefix}
 use Rattle.vg_model.specs.declared.routes.Prefix6.{Prefix6}
 use Rattle.vg_model.specs.declared.routes.RouteTo.{RouteTo}
 use Rattle.vg_model.specs.declared.routes.RouteWord.{RouteWord}
+use Rattle.vg_model.specs.Route.{PrefixKind}
 use Rattle.vg_script.specs.declared.scripts.Script.{Script}
 use Rattle.vg_script.specs.Events.{Event, events}
 use Rattle.vg_ways.specs.declared.lines.RouteLines.{RouteLines}
@@ -25,6 +30,11 @@ use Rattle.vg_ways.specs.LinesView.{key_cmp, line_in, line6_in, HasLine, HasLine
 pub lined_same : {P : Type 0} (f g : P → ℕ) (routes : List (P × RouteTo)) → ((prefix : P) → f prefix ≡ g prefix) → lined f routes ≡ lined g routes
 lined_same f g [] same = refl
 lined_same f g (route ∷ routes) same = ap₂ (λ line rest. (route.0, line) ∷ rest) (same route.0) (lined_same f g routes same)
+
+-- each prefix has one line
+pub lined_once : {P : Type 0} {kind : PrefixKind P} → ArePrefixes kind → (line : P → ℕ) (routes : List (P × RouteTo)) → HasOneLineEach kind (lined line routes)
+lined_once {P} are line routes =
+    one_line_each are line (lined line routes) (All-map (λ (r : P × ℕ). r.1 ≡ line r.0) (λ (r : P × RouteTo). (r.0, line r.0)) routes (λ k d inside. refl))
 
 -- ---- edits one behind the other
 

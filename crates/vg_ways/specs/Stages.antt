@@ -10,14 +10,14 @@ use Rattle.vg_ways.specs.Lines.{lined, route_line, route6_line}
 -- this stage has a graph, and the prefixes of its routes in their order, each with its line
 pub record IsStageWith (g : Graph) (line : Prefix → ℕ) (line6 : Prefix6 → ℕ) (stage : Stage) : Type 0 where
   pub graph : stage.fork.graph ≡ g
-  pub routes : stage.routes.items ≡ lined line g.routes
-  pub routes6 : stage.routes6.items ≡ lined line6 g.routes6
+  pub routes : stage.routes ≡ lined line g.routes
+  pub routes6 : stage.routes6 ≡ lined line6 g.routes6
 
 -- this is the generation of a number: its graph, and the prefixes of its routes in their order, each with the line that set it last
 pub record IsStageOf (plan : Planned) (generation : ℕ) (stage : Stage) : Type 0 where
   pub graph : slice_get plan.graphs generation ≡ Some stage.fork.graph
-  pub routes : stage.routes.items ≡ lined (route_line plan.script generation) stage.fork.graph.routes
-  pub routes6 : stage.routes6.items ≡ lined (route6_line plan.script generation) stage.fork.graph.routes6
+  pub routes : stage.routes ≡ lined (route_line plan.script generation) stage.fork.graph.routes
+  pub routes6 : stage.routes6 ≡ lined (route6_line plan.script generation) stage.fork.graph.routes6
 
 -- what is kept of a generation, where it is kept
 abbrev pub IsKeptOf : (plan : Planned) (generation : ℕ) → Option Stage → Type 0

@@ -7,6 +7,7 @@ use std::alloc::{AllocError, Global};
 use std::collections::BTreeMap;
 use vg_model::{Edit, EditLine, Edits, Prefix, Prefix6, RouteTo};
 use vg_script::Script;
+use vg_story::{RouteIndex, RouteIndex6};
 
 /// The line on which the route of each prefix was set last.
 #[derive(Drop)]
@@ -101,7 +102,7 @@ impl RouteLines {
     }
 
     // The prefixes of these routes, each with its line.
-    pub(crate) fn of(&self, routes: &[(Prefix, RouteTo)]) -> Result<Vec<(Prefix, u32)>, AllocError>
+    fn of(&self, routes: &[(Prefix, RouteTo)]) -> Result<Vec<(Prefix, u32)>, AllocError>
         ensures { IfOk result (λ lined. lined.items ≡ lined_by (line_in self.now) routes.now) }
     {
         let mut lined = Vec::with_capacity(self.alloc, routes.len())?;
@@ -112,10 +113,7 @@ impl RouteLines {
     }
 
     // The same for IPv6.
-    pub(crate) fn of6(
-        &self,
-        routes: &[(Prefix6, RouteTo)],
-    ) -> Result<Vec<(Prefix6, u32)>, AllocError>
+    fn of6(&self, routes: &[(Prefix6, RouteTo)]) -> Result<Vec<(Prefix6, u32)>, AllocError>
         ensures { IfOk result (λ lined. lined.items ≡ lined_by (line6_in self.now) routes.now) }
     {
         let mut lined = Vec::with_capacity(self.alloc, routes.len())?;
@@ -123,5 +121,21 @@ impl RouteLines {
             lined.push((route.0, self.line6(route.0)))?;
         }
         Ok(lined)
+    }
+
+    /// The prefixes of these routes, each with its line, in a form that is searched.
+    pub(crate) fn index(&self, routes: &[(Prefix, RouteTo)]) -> Result<RouteIndex, AllocError>
+        ensures { IfOk result (λ index. index ≡ lined_by (line_in self.now) routes.now) }
+    {
+        let lined = self.of(routes)?;
+        RouteIndex::of(self.alloc, lined)
+    }
+
+    /// The same for IPv6.
+    pub(crate) fn index6(&self, routes: &[(Prefix6, RouteTo)]) -> Result<RouteIndex6, AllocError>
+        ensures { IfOk result (λ index. index ≡ lined_by (line6_in self.now) routes.now) }
+    {
+        let lined = self.of6(routes)?;
+        RouteIndex6::of(self.alloc, lined)
     }
 }

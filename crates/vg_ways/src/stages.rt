@@ -65,8 +65,8 @@ fn stage_of(
     ensures { IfOk result (IsStageWith master.now (line_in lines.now) (line6_in lines.now)) }
 {
     let fork = fork_of(alloc, master, generation)?;
-    let routes = lines.of(master.fib().routes())?;
-    let routes6 = lines.of6(master.fib6().routes())?;
+    let routes = lines.index(master.fib().routes())?;
+    let routes6 = lines.index6(master.fib6().routes())?;
     Ok(Stage {
         fork,
         routes,

@@ -23,8 +23,8 @@ returns c =
     (c.in_ok-put_routes.ensures
     ∙ ap₂ (λ xs routes. xs ++ routes_text names t.matched routes)
     (c.in_ok-put_head.ensures ∙ ap (λ n. before ++ head_text script c.args.generation n) c.began.ensures)
-    (c.as_slice.ensures.value ∙ c.requires.routes))
-    (c.as_slice-2.ensures.value ∙ c.requires.routes6))
+    (c.as_slice.ensures ∙ c.requires.routes))
+    (c.as_slice-2.ensures ∙ c.requires.routes6))
     c.size_of.ensures
     ∙ four before (head_text script c.args.generation t.began) (routes_text names t.matched (lined (route_line script c.args.generation) g.routes))
     (routes6_text names t.matched6 (lined (route6_line script c.args.generation) g.routes6)) (ends_text names (size_of g) t))

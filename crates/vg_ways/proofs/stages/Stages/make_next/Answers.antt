@@ -9,6 +9,7 @@ use Rattle.vg_plan.specs.Run.{seen}
 use Rattle.vg_ways.proofs.LineLemmas.{next_lines}
 use Rattle.vg_ways.proofs.StageLemmas.{AreKept, kept_push, forgotten_push, next_left, next_stage, event_read}
 use Rattle.std.proofs.lemmas.List.{length-map}
+use Rattle.std.proofs.lemmas.Result.{IfOk-from_err}
 use Rattle.vg_ways.proofs.stages.Stages.make_next.Goals as goal
 
 pub overflow_cast-place : goal.overflow_cast-place
@@ -56,3 +57,9 @@ invariant_of-self-2 c =
       forgotten = subst (λ (ms : List (Option Stage)). (g : ℕ) → g < c.self.inside.kept_from → slice_index_or ms g None ≡ None) (sym c.in_ok-push.ensures.items)
           (forgotten_push made (Some stage) c.self.inside.kept_from kept.kept_from kept.forgotten);
     }
+
+pub returns-in_err-push-clause-more : goal.returns-in_err-push-clause-more
+returns-in_err-push-clause-more c = IfOk-from_err c.from_residual-in_err-push.result _ c.from_residual-in_err-push.ensures.0
+
+pub returns-in_err-push-clause-last : goal.returns-in_err-push-clause-last
+returns-in_err-push-clause-last c = IfOk-from_err c.from_residual-in_err-push.result _ c.from_residual-in_err-push.ensures.0
