@@ -1,14 +1,9 @@
-//! Tests of the crates that a worker is made of, a module for each, over the built libraries. They stand in a crate of tests alone, since a
-//! crate that has tests is proved twice.
+//! Tests of what a worker has by itself: buffers and chains of them, frames, forks, nodes and counters, a module for each crate, over the
+//! built libraries. They stand in a crate of tests alone, since a crate that has tests is proved twice.
 //!
-//! In which order to read: `checks`, `pool` with `chains`, `frame`, `fork`, `nodes`, `counters`, `steps`, `ring`, `queue`, `barrier`, `hands`,
-//! `backlog`.
+//! In which order to read: `checks`, `pool` with `chains`, `frame`, `fork`, `nodes`, `counters`.
 #![tactic(auto)]
 
-#[cfg(test)]
-mod backlog;
-#[cfg(test)]
-mod barrier;
 #[cfg(test)]
 mod chains;
 #[cfg(test)]
@@ -20,14 +15,6 @@ mod fork;
 #[cfg(test)]
 mod frame;
 #[cfg(test)]
-mod hands;
-#[cfg(test)]
 mod nodes;
 #[cfg(test)]
 mod pool;
-#[cfg(test)]
-mod queue;
-#[cfg(test)]
-mod ring;
-#[cfg(test)]
-mod steps;

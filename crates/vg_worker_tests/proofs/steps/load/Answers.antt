@@ -1,7 +1,0 @@
-use Rattle.std.proofs.Common.{rules, refl}
-use Rattle.vg_steps.specs.Seats.{me_of}
-use Rattle.vg_steps.specs.Table.{keeps}
-use Rattle.vg_worker_tests.proofs.steps.load.Goals as goal
-
-pub load-requires : goal.load-requires
-load-requires c = (search rules, search rules, λ s r deep at low. ((me_of c.args.seat.now).0, keeps, tt, tt, refl))
