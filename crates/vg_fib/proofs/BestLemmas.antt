@@ -1,3 +1,4 @@
+-- For `covering_prefix_is_unique`, `best_route_is_the_longest_match`, `order_is_free`, `set_route_is_found` and the laws beside them:
 -- The best route: the one route whose prefix covers the address and is the longest of those.
 use Rattle.std.proofs.Common.{◌≡◌, ℕ, ◌<◌, ◌≤◌, ◌⊎◌, inl, inr, Bool, true, false, [], ◌∷◌, ◌++◌, length, get_or, refl, sym, ◌∙◌, ap, arith, append-nil}
 use Rattle.std.proofs.lemmas.List.{get_or-set_same}

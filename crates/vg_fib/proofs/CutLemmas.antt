@@ -1,3 +1,4 @@
+-- For the clauses of `Spans::{cut, put, put_from}`, and for `Spans6::target`:
 -- Spans of addresses that are cut, and numbers that are raised in them.
 use Rattle.std.proofs.Common.{◌≡◌, ◌≢◌, ℕ, ◌+◌, ◌-◌, ◌<◌, ◌≤◌, ◌^◌, ◌⊎◌, List, map, length, get_or, refl, sym, ◌∙◌, ap, subst, arith, inl, inr}
 use Rattle.std.proofs.lemmas.Bool.{cases_order, cases_lt, cases_eq}

@@ -1,13 +1,14 @@
+-- For the clauses of `Levels::{emptied, number, put_short, put_middle, put_long, first_child, second_child}`:
 -- What a trie's levels give, after an entry gets a child and after a prefix's places are filled.
-use Rattle.std.proofs.Common.{◌≡◌, ℕ, ◌+◌, ◌-◌, ◌*◌, ◌/◌, ◌%◌, ◌^◌, ◌<◌, ◌≤◌, ◌≢◌, ◌⊎◌, inl, inr, List, [], ◌++◌, length, get_or, refl, sym, ◌∙◌, ap, subst, arith, length-append, get_or-set_other, get_or-set_same}
+use Rattle.std.proofs.Common.{◌≡◌, ℕ, ◌+◌, ◌-◌, ◌*◌, ◌/◌, ◌%◌, ◌^◌, ◌<◌, ◌≤◌, ◌≢◌, ◌⊎◌, inl, inr, List, [], ◌++◌, length, get_or, refl, sym, ◌∙◌, ap, subst, arith, append_assoc, length-append, get_or-set_other, get_or-set_same}
 use Rattle.std.proofs.Math.ListN.{set, length-set, replicate}
-use Rattle.std.proofs.lemmas.List.{get_or_append_left, get_or-append_right, get_or-replicate, length-replicate, get_or_past, get_or_default}
+use Rattle.std.proofs.lemmas.List.{get_or_append_left, get_or-append_right, get_or-replicate, length-replicate, replicate-append-replicate, get_or_past, get_or_default}
 use Rattle.std.proofs.lemmas.Bool.{cases_eq, cases_lt}
 use Rattle.std.specs.Prelude.{if◌then◌else◌}
 use Rattle.vg_model.specs.declared.routes.Prefix.{Prefix}
 use Rattle.vg_model.specs.Route.{ip4, covers_of}
-use Rattle.vg_fib.specs.declared.trie.Entry.{Entry}
-use Rattle.vg_fib.specs.declared.trie.Entry.TheVariants.{Leaf, Child}
+use Rattle.vg_fib.specs.declared.entries.Entry.{Entry}
+use Rattle.vg_fib.specs.declared.entries.Entry.TheVariants.{Leaf, Child}
 use Rattle.vg_fib.specs.Trie.{number_in, number_under, number_by, HasChildren, AreLevels, IsRaised, IsRaisedSecond, AreRaised}
 use Rattle.vg_fib.proofs.PrefixLemmas.{are4}
 use Rattle.vg_fib.proofs.SpanLemmas.{addresses, chosen_by_span, short_span, middle_span, long_span}
@@ -61,9 +62,18 @@ added_back old count number i c e =
           ]
     ]
 
--- what was read at a place, with the default of a place without an entry
-pub entry_read : (entries : List Entry) (place : ℕ) (read is : Entry) → place < length entries → read ≡ get_or entries place read → read ≡ is → entry entries place ≡ is
-entry_read entries place read is within at e = get_or_default entries place (Leaf 0) read within ∙ (sym at ∙ e)
+-- the leaves of one child more
+pub leaves_more : (old now : List Entry) (n : ℕ) → now ≡ old ++ replicate (256 * n) (Leaf 0) → now ++ replicate 256 (Leaf 0) ≡ old ++ replicate (256 * (n + 1)) (Leaf 0)
+leaves_more old now n is =
+    let sum : 256 * n + 256 ≡ 256 * (n + 1) = omega arith in
+    ap (λ xs. xs ++ replicate 256 (Leaf 0)) is
+    ∙ (append_assoc old (replicate (256 * n) (Leaf 0)) (replicate 256 (Leaf 0))
+    ∙ ap (λ xs. old ++ xs) (replicate-append-replicate (256 * n) 256 (Leaf 0) ∙ ap (λ k. replicate k (Leaf 0)) sum))
+
+-- what was read at a place and seen as an entry, with the default of a place without an entry
+pub entry_read : (entries : List Entry) (place : ℕ) (read seen is : Entry) → place < length entries → read ≡ get_or entries place read → seen ≡ read → seen ≡ is
+    → entry entries place ≡ is
+entry_read entries place read seen is within at same e = get_or_default entries place (Leaf 0) read within ∙ (sym at ∙ (sym same ∙ e))
 
 -- one entry more has a child, the one behind the others
 pub one_child_more : (entries : List Entry) (place child places : ℕ) → HasChildren entries places → place < length entries → places ≡ 256 * child

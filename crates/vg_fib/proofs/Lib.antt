@@ -1,5 +1,6 @@
 pub mod BestLemmas
 pub mod CutLemmas
+pub mod EntryLemmas
 pub mod FollowLemmas
 pub mod HeirLemmas
 pub mod LevelLemmas

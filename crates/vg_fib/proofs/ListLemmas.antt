@@ -1,3 +1,4 @@
+-- For the laws of routes, and for `set` and `remove` of `Fib` and `Fib6`:
 -- Lists: places, filters and edits.
 use Rattle.std.proofs.Common.{◌≡◌, ℕ, zero, suc, ◌+◌, ◌<◌, Bool, true, false, cond, List, [], ◌∷◌, length, get_or, refl, ap, arith}
 use Rattle.std.proofs.Math.ListN.{set}

@@ -1,10 +1,10 @@
+-- For the clauses of `put_from` and `follow`, of levels and of spans, and of `Mtrie::target` and `Spans6::target`:
 -- Numbers of routes: where all routes are put, an address's number is that of its best route.
-use Rattle.std.proofs.Common.{◌≡◌, ℕ, zero, suc, ◌+◌, ◌-◌, ◌<◌, ◌≤◌, ◌≢◌, ◌⊎◌, inl, inr, true, false, List, [], ◌∷◌, length, get_or, refl, sym, ◌∙◌, ap, subst, arith}
+use Rattle.std.proofs.Common.{◌≡◌, ℕ, zero, suc, ◌+◌, ◌-◌, ◌<◌, ◌≤◌, ◌≢◌, ◌⊎◌, inl, inr, true, false, List, [], ◌∷◌, ◌++◌, length, get_or, refl, sym, ◌∙◌, ap, subst, arith, append_assoc, append-nil, length-append}
 use Rattle.std.proofs.lemmas.Bool.{cases_eq, cases_lt, false≢true, ltb-true, ltb-false}
-use Rattle.std.proofs.lemmas.List.{get_or_default, get_or_past}
-use Rattle.std.proofs.lemmas.List.Elements.{Contains-get_or, All-from_recursion}
-use Rattle.std.proofs.lemmas.List.Sorted.{Contains-permutation, IsPermutation-sym, length_permutation}
-use Rattle.std.specs.Prelude.{Option, Some, None, option_map, nat_lt, IsPermutation, if◌then◌else◌}
+use Rattle.std.proofs.lemmas.List.{get_or_append_left, get_or-append_right, get_or_default, get_or_past}
+use Rattle.std.proofs.lemmas.List.Elements.{All-from_recursion}
+use Rattle.std.specs.Prelude.{Option, Some, None, option_map, nat_lt, if◌then◌else◌}
 use Rattle.std.specs.List.{Contains, AllByRecursion}
 use Rattle.vg_model.specs.declared.routes.RouteTo.{RouteTo}
 use Rattle.vg_model.specs.Route.{PrefixKind, best_of}
@@ -37,24 +37,74 @@ put_all known all order k from below = elim (cases_lt k known) [
   | inr behind ↦ inr (from.each k behind below)
 ]
 
--- the places from one on, in another order
-pub from_permutation : (known all : ℕ) (rising order : List ℕ) → length rising + known ≡ all
-    → ((i : ℕ) → i < length rising → get_or rising i 0 ≡ known + i) → IsPermutation rising order → AreFrom known all order
-from_permutation known all rising order count is moved =
-    let same : length order ≡ length rising = length_permutation rising order moved in
+-- there are no places from one on below it
+pub none_from : (known : ℕ) → AreFrom known known []
+none_from known = record {
+  count = omega arith;
+  within = λ i inside. absurd (omega (arith, inside));
+  each = λ k low high. absurd (omega (arith, low, high));
+}
+
+-- what stands before a number that is put in between, the number, and what stands behind it
+front_kept : (front back : List ℕ) (x i : ℕ) → i < length front → get_or (front ++ (x ∷ back)) i 0 ≡ get_or (front ++ back) i 0
+front_kept front back x i before = get_or_append_left front (x ∷ back) 0 i before ∙ sym (get_or_append_left front back 0 i before)
+
+put_between : (front back : List ℕ) (x : ℕ) → get_or (front ++ (x ∷ back)) (length front) 0 ≡ x
+put_between front back x =
+    let none : length front - length front ≡ 0 = omega arith in
+    get_or-append_right front (x ∷ back) (length front) (length front) 0 refl (omega arith) ∙ ap (λ j. get_or (x ∷ back) j 0) none
+
+back_moved : (front back : List ℕ) (x i : ℕ) → length front ≤ i → get_or (front ++ (x ∷ back)) (i + 1) 0 ≡ get_or (front ++ back) i 0
+back_moved front back x i behind =
+    let next : i + 1 - length front ≡ suc (i - length front) = omega arith in
+    get_or-append_right front (x ∷ back) (length front) (i + 1) 0 refl (omega arith)
+    ∙ (ap (λ j. get_or (x ∷ back) j 0) next ∙ sym (get_or-append_right front back (length front) i 0 refl behind))
+
+-- the next place is put somewhere among those so far
+one_place_more : (known all : ℕ) (front back : List ℕ) → AreFrom known all (front ++ back) → AreFrom known (all + 1) (front ++ (all ∷ back))
+one_place_more known all front back from =
+    let before : length (front ++ back) ≡ length front + length back = length-append front back in
+    let after : length (front ++ (all ∷ back)) ≡ length front + suc (length back) = length-append front (all ∷ back) in
     record {
-      count = omega (arith, count, same);
-      within = λ i inside.
-          let back : Contains rising (get_or order i 0) = Contains-permutation order rising (get_or order i 0) (IsPermutation-sym rising order moved) (Contains-get_or order i 0 inside) in
-          let at : get_or rising back.0 0 ≡ get_or order i 0 = get_or_default rising back.0 0 (get_or order i 0) back.1 ∙ back.2 in
-          omega (arith, count, back.1, is back.0 back.1, at);
-      each = λ k low high.
-          let i : ℕ = k - known in
-          let inside : i < length rising = omega (arith, count, low, high) in
-          let value : get_or rising i 0 ≡ k = omega (arith, is i inside, low) in
-          let there : Contains order (get_or rising i 0) = Contains-permutation rising order (get_or rising i 0) moved (Contains-get_or rising i 0 inside) in
-          (there.0, there.1, get_or_default order there.0 0 (get_or rising i 0) there.1 ∙ (there.2 ∙ value));
+      count = omega (arith, from.count, before, after);
+      within = λ i inside. elim (cases_lt i (length front)) [
+        | inl low ↦ omega (arith, front_kept front back all i low, from.within i (omega (arith, low, before)))
+        | inr high ↦ elim (cases_eq i (length front)) [
+          | inl here ↦ omega (arith, ap (λ j. get_or (front ++ (all ∷ back)) j 0) here ∙ put_between front back all)
+          | inr other ↦
+              let j : ℕ = i - 1 in
+              let next : j + 1 ≡ i = omega (arith, high, other) in
+              let is : get_or (front ++ (all ∷ back)) i 0 ≡ get_or (front ++ back) j 0 =
+              ap (λ k. get_or (front ++ (all ∷ back)) k 0) (sym next) ∙ back_moved front back all j (omega (arith, high, other)) in
+              omega (arith, is, from.within j (omega (arith, inside, before, after, next)))
+        ]
+      ];
+      each = λ k low high. elim (cases_eq k all) [
+        | inl last ↦ (length front, omega (arith, after), put_between front back all ∙ sym last)
+        | inr other ↦
+            let there = from.each k low (omega (arith, high, other)) in
+            elim (cases_lt there.0 (length front)) [
+              | inl near ↦ (there.0, omega (arith, near, after), front_kept front back all there.0 near ∙ there.2)
+              | inr far ↦ (there.0 + 1, omega (arith, there.1, before, after), back_moved front back all there.0 far ∙ there.2)
+            ]
+      ];
     }
+
+-- it is put behind those of the first of three lists, of the second, or of the third
+pub placed_first : (known all : ℕ) (xs ys zs : List ℕ) → AreFrom known all ((xs ++ ys) ++ zs) → AreFrom known (all + 1) (((xs ++ all ∷ []) ++ ys) ++ zs)
+placed_first known all xs ys zs from =
+    subst (AreFrom known (all + 1)) (sym (append_assoc (xs ++ all ∷ []) ys zs ∙ append_assoc xs (all ∷ []) (ys ++ zs)))
+    (one_place_more known all xs (ys ++ zs) (subst (AreFrom known all) (append_assoc xs ys zs) from))
+
+pub placed_second : (known all : ℕ) (xs ys zs : List ℕ) → AreFrom known all ((xs ++ ys) ++ zs) → AreFrom known (all + 1) ((xs ++ (ys ++ all ∷ [])) ++ zs)
+placed_second known all xs ys zs from =
+    subst (AreFrom known (all + 1)) (sym (ap (λ front. front ++ zs) (sym (append_assoc xs ys (all ∷ []))) ∙ append_assoc (xs ++ ys) (all ∷ []) zs))
+    (one_place_more known all (xs ++ ys) zs from)
+
+pub placed_third : (known all : ℕ) (xs ys zs : List ℕ) → AreFrom known all ((xs ++ ys) ++ zs) → AreFrom known (all + 1) ((xs ++ ys) ++ (zs ++ all ∷ []))
+placed_third known all xs ys zs from =
+    subst (AreFrom known (all + 1)) (append_assoc (xs ++ ys) zs (all ∷ []))
+    (one_place_more known all ((xs ++ ys) ++ zs) [] (subst (AreFrom known all) (sym (append-nil ((xs ++ ys) ++ zs))) from))
 
 -- what was read in a slot stands there
 pub slot_is : {P : Type 0} (slots : SlotsOf P) (place : ℕ) (read slot : Option (P × RouteTo)) → place < length slots → read ≡ get_or slots place read → read ≡ slot

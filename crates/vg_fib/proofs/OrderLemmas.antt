@@ -1,3 +1,4 @@
+-- For the clauses of `place_in_order`, and for `new`, `set` and `remove` of `Fib` and `Fib6`:
 -- The order of a table's prefixes: what stands in it, and how it changes with the table.
 use Rattle.std.proofs.Common.{◌≡◌, ℕ, zero, suc, take, drop, ◌+◌, ◌-◌, ◌<◌, ◌≤◌, true, false, List, [], ◌∷◌, ◌++◌, map, length, get_or, refl, sym, ◌∙◌, ap, subst, arith, inl, inr}
 use Rattle.std.proofs.Math.ListN.{set}

@@ -1,3 +1,4 @@
+-- For the laws of routes, and for the functions of `Fib` and `Fib6`:
 -- Prefixes that are the same, and the addresses that they cover.
 use Rattle.std.proofs.Common.{◌≡◌, ℕ, ◌-◌, ◌/◌, ◌%◌, ◌^◌, ◌<◌, ◌≤◌, true, refl, sym, ◌∙◌, ap, subst, arith}
 use Rattle.std.proofs.Math.Nat.{div-add-mod, ℕ_set}

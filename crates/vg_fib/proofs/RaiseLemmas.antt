@@ -1,9 +1,10 @@
+-- For the clauses of `raise_third`, `raise_second` and `Levels::raise_first`:
 -- Numbers that are raised one place after the other, level by level.
 use Rattle.std.proofs.Common.{◌≡◌, ℕ, ◌+◌, ◌*◌, ◌/◌, ◌%◌, ◌<◌, ◌≢◌, inl, inr, List, length, get_or, refl, sym, ◌∙◌, ap, subst, arith, get_or-set_other, get_or-set_same}
 use Rattle.std.proofs.Math.ListN.{set, length-set}
 use Rattle.std.proofs.lemmas.List.{get_or_default}
-use Rattle.vg_fib.specs.declared.trie.Entry.{Entry}
-use Rattle.vg_fib.specs.declared.trie.Entry.TheVariants.{Leaf, Child}
+use Rattle.vg_fib.specs.declared.entries.Entry.{Entry}
+use Rattle.vg_fib.specs.declared.entries.Entry.TheVariants.{Leaf, Child}
 use Rattle.vg_fib.specs.Trie.{number_in, number_under, HasChildren, IsRaised, IsRaisedSecond, AreRaised}
 use Rattle.vg_fib.proofs.LevelLemmas.{entry, leaf_is_no_child, same_in, same_below, is_or_not}
 

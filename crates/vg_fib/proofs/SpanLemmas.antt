@@ -1,3 +1,4 @@
+-- For `Levels::{put_short, put_middle, put_long}` and `Spans::put`, and for prefixes in vg_story and vg_remarks:
 -- The addresses that a prefix covers are a span, and where it lies in the levels of a trie.
 use Rattle.std.proofs.Common.{◌≡◌, ℕ, ◌+◌, ◌-◌, ◌*◌, ◌/◌, ◌%◌, ◌^◌, ◌<◌, ◌≤◌, true, false, refl, sym, ◌∙◌, ap, subst, arith}
 use Rattle.std.proofs.Math.Nat.{div-add-mod}

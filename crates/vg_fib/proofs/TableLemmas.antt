@@ -1,3 +1,4 @@
+-- For `new`, `set` and `remove` of `Fib` and `Fib6`, and for the laws of routes:
 -- Edits of a table of routes.
 use Rattle.std.proofs.Common.{◌≡◌, ℕ, ◌<◌, Bool, true, false, [], ◌∷◌, ◌++◌, map, length, get_or, refl, sym, ◌∙◌, ap, subst, arith, length-append}
 use Rattle.std.proofs.Math.ListN.{set, length-set}

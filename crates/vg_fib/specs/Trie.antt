@@ -3,8 +3,8 @@ use Rattle.std.specs.Prelude.{ℕ, Bool, ◌≡◌, ◌+◌, ◌*◌, ◌/◌, �
 use Rattle.vg_model.specs.declared.routes.Prefix.{Prefix}
 use Rattle.vg_model.specs.Route.{ip4, covers_of}
 use Rattle.vg_fib.specs.Table.{IsTable}
-use Rattle.vg_fib.specs.declared.trie.Entry.{Entry}
-use Rattle.vg_fib.specs.declared.trie.Entry.TheVariants.{Leaf, Child}
+use Rattle.vg_fib.specs.declared.entries.Entry.{Entry}
+use Rattle.vg_fib.specs.declared.entries.Entry.TheVariants.{Leaf, Child}
 use Rattle.vg_fib.specs.declared.trie.Levels.{Levels}
 use Rattle.vg_fib.specs.Numbers.{SlotsOf, IsBestOf, covers_at, longer_of, routes_in}
 
@@ -41,9 +41,9 @@ pub record AreLevels (first second : List Entry) (third : List ℕ) : Type 0 whe
 abbrev pub IsLevels : Levels → Type 0
 IsLevels levels = AreLevels levels.first.items levels.second.items levels.third.items
 
--- one more child has a number of 16 bits
+-- one more child has a number of 15 bits
 abbrev pub Spare : Levels → Type 0
-Spare levels = (length levels.second.items < 65536 * 256) × (length levels.third.items < 65536 * 256)
+Spare levels = (length levels.second.items < 32768 * 256) × (length levels.third.items < 32768 * 256)
 
 -- numbers at so many places from one on are raised, and the others are what they were
 pub record IsRaised (f : ℕ → ℕ) (from count : ℕ) (old new : List ℕ) : Type 0 where
@@ -114,10 +114,10 @@ pub record GivesSecondChild (place child : ℕ) (old new : Levels) : Type 0 wher
   pub first : new.first.items ≡ old.first.items
   pub second : length new.second.items ≡ length old.second.items
 
--- so many more children of each level have a number of 16 bits
+-- so many more children of each level have a number of 15 bits
 pub record HasRoom (more : ℕ) (levels : Levels) : Type 0 where
-  pub second : length levels.second.items + 256 * more ≤ 65536 * 256
-  pub third : length levels.third.items + 256 * more ≤ 65536 * 256
+  pub second : length levels.second.items + 256 * more ≤ 32768 * 256
+  pub third : length levels.third.items + 256 * more ≤ 32768 * 256
 
 -- the routes of the first so many slots are put into these levels: each address has its best number among them
 pub record HasFirst (slots : SlotsOf Prefix) (known : ℕ) (levels : Levels) : Type 0 where

@@ -8,12 +8,11 @@
 //! [`Mtrie`] takes at most three steps: by the first 16 bits of an address, then by the next 8, then by the last 8, as the mtrie of VPP's
 //! IPv4 FIB. A step to 8 bits more is there only where some prefix is longer than the bits so far.
 //!
-//! An entry of the first two levels takes 4 bytes, one of the third 2, the slot of a route 48, and a child has 256 entries.
-//! The most that 4,096 routes of 32 bits take is where no two of them have their first 16 bits in common:
-//! 65,536 * 4 + 4,096 * 256 * 4 + 4,096 * 256 * 2 + 4,096 * 48 = 6,750,208 bytes. Where 4,096 such routes in as
-//! many prefixes of 24 bits share 16 of 16 bits, it is 65,536 * 4 + 16 * 256 * 4 + 4,096 * 256 * 2 + 4,096 * 48
-//! = 2,572,288 bytes. Slots and children that removed routes leave are at most as many again, so two tries, those before and
-//! after a change, take less than 27 million bytes. An entry names a route by its number, so it stays as small where a target
+//! An entry takes 2 bytes, the slot of a route 48, and a child has 256 entries. The most that 4,096 routes of 32 bits take is where
+//! no two of them have their first 16 bits in common: 65,536 * 2 + 4,096 * 256 * 2 + 4,096 * 256 * 2 + 4,096 * 48 = 4,521,984 bytes.
+//! Where 4,096 such routes in as many prefixes of 24 bits share 16 of 16 bits, it is 65,536 * 2 + 16 * 256 * 2 + 4,096 * 256 * 2 +
+//! 4,096 * 48 = 2,433,024 bytes. Slots and children that removed routes leave are at most as many again, so two tries, those before
+//! and after a change, take less than 18 million bytes. An entry names a route by its number, so it stays as small where a target
 //! grows.
 //!
 //! [`Spans6`] are spans of addresses side by side, in each of which one route is best: 4,096 routes make at most 8,193 of them, of 18 bytes
@@ -27,9 +26,10 @@
 //! take their value, so nobody looks up in it meanwhile. [`Mtrie::target`] and [`Spans6::target`] only read, so the workers of one
 //! generation can share both behind a reference.
 //!
-//! In which order to read: `table`, `numbers`, `trie`; then `table6`, `spans`, and `laws`.
+//! In which order to read: `table`, `numbers`, `entries`, `trie`; then `table6`, `spans`, and `laws`.
 #![tactic(auto)]
 
+mod entries;
 pub mod laws;
 mod numbers;
 mod spans;

@@ -3,8 +3,10 @@ ghost use Rattle.std.specs.Prelude.{◌≡◌, ◌↔◌, IsTrue, ℕ, true, ◌
 ghost use Rattle.std.specs.Option.{option_copied};
 ghost use Rattle.vg_model.specs.Route.{best_route, ip4};
 ghost use Rattle.vg_fib.specs.Numbers.{AreFirstOf, AreFrom, HasPrefix, IsHeir, changed_by, covers_at, length_at, length_of, longer_of, most_slots};
+ghost use Rattle.vg_fib.specs.Entries.{FitsEntries};
 ghost use Rattle.vg_fib.specs.Trie.{GivesFirstChild, GivesSecondChild, HasChildren, HasFirst, HasRoom, IsLevels, IsPut, IsPutAt, IsRaised, IsRaisedFirst, IsRaisedSecond, number_at, Spare};
 
+use crate::entries::{Entry, Packed};
 use crate::numbers::{Change, MOST_REMOVED, MOST_SLOTS, add_slots};
 use crate::table::{Fib, covers, know_few};
 use std::alloc::{AllocError, Global};
@@ -17,22 +19,13 @@ const CHILD: usize = 256;
 // What stands at a place: a route, or nothing where it was removed.
 type Slot = Option<(Prefix, RouteTo)>;
 
-// What stands at a place of the first or the second level.
-#[derive(Clone, Copy)]
-enum Entry {
-    // All addresses here have the route of this number, or none where it is 0.
-    Leaf(u16),
-    // The number of the table that the next byte of the address is looked up in.
-    Child(u16),
-}
-
 // The tables of the three levels. Child number k of a level has the entries from 256 * k on.
 #[derive(Drop)]
 struct Levels {
     // By the first 16 bits of an address.
-    first: Vec<Entry>,
+    first: Vec<Packed>,
     // The children of the first level, by the next 8 bits.
-    second: Vec<Entry>,
+    second: Vec<Packed>,
     // The children of the second level, by the last 8 bits: numbers of routes.
     third: Vec<u16>,
 }
@@ -61,7 +54,7 @@ impl Levels {
         first.clear();
         second.clear();
         third.clear();
-        add(&mut first, 65536, Entry::Leaf(0))?;
+        add_leaves(&mut first, 65536 / CHILD)?;
         Ok(Levels {
             first,
             second,
@@ -69,8 +62,8 @@ impl Levels {
         })
     }
 
-    // Puts the routes of the slots from this place on in, where those before it are in. Shorter prefixes are put first, so that the
-    // children that longer ones of them will make are not gone through.
+    // Puts the routes of the slots from this place on in, where those before it are in. Prefixes of at most 16 bits are put first, then
+    // those of at most 24, so that none goes through a child that another one makes.
     fn put_from(&mut self, alloc: Global, slots: &[Slot], known: usize) -> Result<(), AllocError>
         requires few { length slots.now ≤ most_slots }
         requires known { known ≤ length slots.now }
@@ -78,7 +71,7 @@ impl Levels {
         requires has { HasFirst slots.now known self.old }
         ensures { IfOk result (λ _. HasFirst slots.now (length slots.now) self.new) }
     {
-        let order = by_length(alloc, slots, known)?;
+        let order = by_level(alloc, slots, known)?;
         for place in &order {
             self.put_at(slots, usize::from(*place))?;
         }
@@ -176,10 +169,10 @@ impl Levels {
         ensures { result ≡ number_at self.now address }
     {
         let address = address as usize;
-        match self.first[address >> 16] {
+        match self.first[address >> 16].entry() {
             Entry::Leaf(number) => number,
             Entry::Child(child) => {
-                match self.second[CHILD * child as usize + (address >> 8) % CHILD] {
+                match self.second[CHILD * child as usize + (address >> 8) % CHILD].entry() {
                     Entry::Leaf(number) => number,
                     Entry::Child(child) => self.third[CHILD * child as usize + address % CHILD],
                 }
@@ -191,6 +184,7 @@ impl Levels {
     fn put(&mut self, slots: &[Slot], prefix: Prefix, change: Change) -> Result<(), AllocError>
         requires shape { IsLevels self.old }
         requires room { Spare self.old }
+        requires fits { FitsEntries change }
         ensures { IfOk result (λ _. IsPut prefix (changed_by ip4 slots.now change) self.old self.new) }
     {
         if prefix.len <= 16 {
@@ -207,6 +201,7 @@ impl Levels {
     fn put_short(&mut self, slots: &[Slot], prefix: Prefix, change: Change)
         requires shape { IsLevels self.old }
         requires short { prefix.len ≤ 16 }
+        requires fits { FitsEntries change }
         ensures { IsPut prefix (changed_by ip4 slots.now change) self.old self.new }
     {
         let from = prefix.addr as usize >> 16;
@@ -225,6 +220,7 @@ impl Levels {
         requires room { Spare self.old }
         requires longer { 16 < prefix.len }
         requires middle { prefix.len ≤ 24 }
+        requires fits { FitsEntries change }
         ensures { IfOk result (λ _. IsPut prefix (changed_by ip4 slots.now change) self.old self.new) }
     {
         let address = prefix.addr as usize;
@@ -262,11 +258,14 @@ impl Levels {
     fn raise_first(&mut self, slots: &[Slot], change: Change, from: usize, count: usize)
         requires shape { IsLevels self.old }
         requires places { from + count ≤ 65536 }
+        requires fits { FitsEntries change }
         ensures { IsRaisedFirst (changed_by ip4 slots.now change) from count self.old self.new }
     {
         for place in from..from + count {
-            match self.first[place] {
-                Entry::Leaf(old) => self.first[place] = Entry::Leaf(changed_by(slots, change, old)),
+            match self.first[place].entry() {
+                Entry::Leaf(old) => {
+                    self.first[place] = Packed::leaf(changed_by(slots, change, old));
+                }
                 Entry::Child(child) => raise_second(
                     &mut self.second,
                     &mut self.third,
@@ -286,12 +285,13 @@ impl Levels {
         requires place { place < 65536 }
         ensures { IfOk result (λ child. GivesFirstChild place child self.old self.new) }
     {
-        match self.first[place] {
+        match self.first[place].entry() {
             Entry::Child(child) => Ok(child as usize),
             Entry::Leaf(number) => {
                 let child = self.second.len() / CHILD;
-                add(&mut self.second, CHILD, Entry::Leaf(number))?;
-                self.first[place] = Entry::Child(child as u16);
+                self.second
+                    .extend_from_slice(&[Packed::leaf(number); CHILD])?;
+                self.first[place] = Packed::child(child as u16);
                 Ok(child)
             }
         }
@@ -300,16 +300,16 @@ impl Levels {
     // The child of a place of the second level. One that is made says what its parent's entry said.
     fn second_child(&mut self, place: usize) -> Result<usize, AllocError>
         requires shape { IsLevels self.old }
-        requires room { length self.old.third.items < 65536 * 256 }
+        requires room { length self.old.third.items < 32768 * 256 }
         requires place { place < length self.old.second.items }
         ensures { IfOk result (λ child. GivesSecondChild place child self.old self.new) }
     {
-        match self.second[place] {
+        match self.second[place].entry() {
             Entry::Child(child) => Ok(child as usize),
             Entry::Leaf(number) => {
                 let child = self.third.len() / CHILD;
-                add(&mut self.third, CHILD, number)?;
-                self.second[place] = Entry::Child(child as u16);
+                self.third.extend_from_slice(&[number; CHILD])?;
+                self.second[place] = Packed::child(child as u16);
                 Ok(child)
             }
         }
@@ -424,17 +424,27 @@ impl Mtrie {
     }
 }
 
-// The places from this one on, those of shorter prefixes first.
-fn by_length(alloc: Global, slots: &[Slot], known: usize) -> Result<Vec<u16>, AllocError>
+// The places from this one on: first those of prefixes of at most 16 bits, then those of at most 24.
+fn by_level(alloc: Global, slots: &[Slot], known: usize) -> Result<Vec<u16>, AllocError>
     requires few { length slots.now ≤ most_slots }
     requires known { known ≤ length slots.now }
     ensures { IfOk result (λ order. AreFrom known (length slots.now) order.items) }
 {
-    let mut order = Vec::with_capacity(alloc, slots.len() - known)?;
+    let mut order = Vec::new(alloc);
+    let mut middle = Vec::new(alloc);
+    let mut long = Vec::new(alloc);
     for place in known..slots.len() {
-        order.push_reserved(place as u16);
+        let bits = length_at(slots, place);
+        if bits <= 16 {
+            order.push(place as u16)?;
+        } else if bits <= 24 {
+            middle.push(place as u16)?;
+        } else {
+            long.push(place as u16)?;
+        }
     }
-    order.sort_unstable_by_key(|place| length_at(slots, usize::from(*place)));
+    order.extend_from_slice(middle.as_slice())?;
+    order.extend_from_slice(long.as_slice())?;
     Ok(order)
 }
 
@@ -506,7 +516,7 @@ fn heir(slots: &[Slot], prefix: Prefix) -> u16
 
 // Changes the numbers of all addresses under so many places of the second level.
 fn raise_second(
-    second: &mut Vec<Entry>,
+    second: &mut Vec<Packed>,
     third: &mut Vec<u16>,
     slots: &[Slot],
     change: Change,
@@ -515,11 +525,12 @@ fn raise_second(
 )
     requires places { from + count ≤ length second.old.items }
     requires children { HasChildren second.old.items (length third.old.items) }
+    requires fits { FitsEntries change }
     ensures { IsRaisedSecond (changed_by ip4 slots.now change) from count second.old.items third.old.items second.new.items third.new.items }
 {
     for place in from..from + count {
-        match second[place] {
-            Entry::Leaf(old) => second[place] = Entry::Leaf(changed_by(slots, change, old)),
+        match second[place].entry() {
+            Entry::Leaf(old) => second[place] = Packed::leaf(changed_by(slots, change, old)),
             Entry::Child(child) => {
                 raise_third(third, slots, change, CHILD * child as usize, CHILD)
             }
@@ -537,11 +548,14 @@ fn raise_third(third: &mut Vec<u16>, slots: &[Slot], change: Change, from: usize
     }
 }
 
-// Adds so many entries with this value.
-fn add<T: Copy + Drop>(entries: &mut Vec<T>, count: usize, value: T) -> Result<(), AllocError>
-    requires { length entries.old.items + count < 2 ^ 32 }
-    ensures { IfOk result (λ _. entries.new.items ≡ entries.old.items ++ replicate count value) }
+// Adds the entries of so many children, a child at a time: no address there has a route.
+fn add_leaves(entries: &mut Vec<Packed>, children: usize) -> Result<(), AllocError>
+    requires { children ≤ 256 }
+    ensures { IfOk result (λ _. entries.new.items ≡ entries.old.items ++ replicate (256 * children) (Entry.Leaf 0)) }
 {
-    let len = entries.len() + count;
-    entries.resize(len, value)
+    entries.reserve(CHILD * children)?;
+    for _ in 0..children {
+        entries.extend_from_slice(&[Packed::leaf(0); CHILD])?;
+    }
+    Ok(())
 }

@@ -36,7 +36,7 @@ use Rattle.vg_fib.proofs.spans.Spans.TheSendSync as spans
 use Rattle.vg_fib.proofs.spans.Spans6.TheSendSync as spans6
 use Rattle.vg_fib.proofs.table.Fib.TheSendSync as fib
 use Rattle.vg_fib.proofs.table6.Fib6.TheSendSync as fib6
-use Rattle.vg_fib.proofs.trie.Entry.TheSendSync as entry
+use Rattle.vg_fib.proofs.entries.Packed.TheSendSync as packed
 use Rattle.vg_fib.proofs.trie.Levels.TheSendSync as levels
 use Rattle.vg_fib.proofs.trie.Mtrie.TheSendSync as mtrie
 use Rattle.vg_fork.proofs.forks.Fork.TheSendSync as fork
@@ -215,10 +215,8 @@ pub ruleset crosses = (
   spans.the_sync,
   spans6.the_send,
   spans6.the_sync,
-  entry.the_field_send,
-  entry.the_send,
-  entry.the_field_sync,
-  entry.the_sync,
+  packed.the_send,
+  packed.the_sync,
   levels.the_field_send,
   levels.the_send,
   levels.the_field_sync,

@@ -1,6 +1,8 @@
-use Rattle.std.proofs.Common.{◌≡◌, ◌+◌, ◌-◌, ◌<◌, length, arith}
+use Rattle.std.proofs.Common.{◌≡◌, ◌+◌, ◌-◌, ◌<◌, length, subst, arith}
 use Rattle.vg_model.specs.Route.{ip4}
 use Rattle.vg_fib.specs.Numbers.{changed_by}
+use Rattle.vg_fib.specs.Entries.{IsShort}
+use Rattle.vg_fib.proofs.EntryLemmas.{changed_short}
 use Rattle.vg_fib.proofs.LevelLemmas.{entry_read}
 use Rattle.vg_fib.proofs.RaiseLemmas.{leaf_raised_second, child_raised_second, counted_second}
 use Rattle.vg_fib.proofs.trie.raise_second.Goals as goal
@@ -11,8 +13,13 @@ raise_third-requires c =
     let raised = c.loop-place.invariant in
     let place = c.loop-place.place in
     let within : place < length c.loop-place.second.items = omega (arith, c.loop-place-test.true, c.requires.places, raised.same_length) in
-    let is = entry_read c.loop-place.second.items place _ _ within c.index.ensures c.in-Child.is in
+    let is = entry_read c.loop-place.second.items place _ _ _ within c.index.ensures c.entry.ensures.entry c.in-Child.is in
     omega (arith, c.requires.children.within _ _ (raised.no_more _ _ is), raised.third)
+
+pub leaf-requires : goal.leaf-requires
+leaf-requires c =
+    let short = subst IsShort c.in-Leaf.is c.entry.ensures.short in
+    omega (arith, c.changed_by.ensures, changed_short c.args.slots.now c.args.change c.in-Leaf.old c.requires.fits short)
 
 pub loop-place-preserved : goal.loop-place-preserved
 loop-place-preserved c =
@@ -26,13 +33,13 @@ loop-place-preserved c =
     let next : place - from + 1 ≡ place + 1 - from = omega arith in
     let old_within : place < length old = omega (arith, c.loop-place-test.true, c.requires.places) in
     let within : place < length c.loop-place.second.items = omega (arith, old_within, raised.same_length) in
-    elim c.match-index.branch [
+    elim c.match-entry.branch [
       | in-Leaf w ↦
-          let is = entry_read c.loop-place.second.items place _ _ within c.index.ensures w.in-Leaf.is in
+          let is = entry_read c.loop-place.second.items place _ _ _ within c.index.ensures c.entry.ensures.entry w.in-Leaf.is in
           let more = leaf_raised_second f from (place - from) place w.in-Leaf.old old c.loop-place.second.items old_third c.loop-place.third.items raised here old_within is in
-          rw (w.second-is, w.third-is, w.changed_by.ensures) (counted_second f from _ _ _ _ _ _ next more)
+          rw (w.second-is, w.third-is, w.leaf.ensures, w.changed_by.ensures) (counted_second f from _ _ _ _ _ _ next more)
       | in-Child w ↦
-          let is = entry_read c.loop-place.second.items place _ _ within c.index.ensures w.in-Child.is in
+          let is = entry_read c.loop-place.second.items place _ _ _ within c.index.ensures c.entry.ensures.entry w.in-Child.is in
           let more = child_raised_second f from (place - from) place w.in-Child.child old c.loop-place.second.items old_third c.loop-place.third.items _
           c.requires.children raised here is w.raise_third.ensures in
           rw (w.second-is, w.third-is) (counted_second f from _ _ _ _ _ _ next more)

@@ -2,7 +2,7 @@ use Rattle.std.proofs.Common.{◌≡◌, ◌+◌, ◌-◌, ◌*◌, ◌/◌, ◌
 use Rattle.std.proofs.lemmas.Nat.{one_shl}
 use Rattle.std.specs.Prelude.{if◌then◌else◌}
 use Rattle.vg_model.specs.Route.{ip4, covers_of}
-use Rattle.vg_fib.specs.declared.trie.Entry.TheVariants.{Child}
+use Rattle.vg_fib.specs.declared.entries.Entry.TheVariants.{Child}
 use Rattle.vg_fib.specs.Numbers.{changed_by}
 use Rattle.vg_fib.specs.Trie.{IsRaised}
 use Rattle.vg_fib.proofs.SpanLemmas.{long_span}

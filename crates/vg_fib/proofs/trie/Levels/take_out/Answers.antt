@@ -1,12 +1,20 @@
-use Rattle.std.proofs.Common.{◌+◌, subst}
-use Rattle.std.proofs.Math.ListN.{set}
+use Rattle.std.proofs.Common.{◌+◌, ◌≤◌, length, subst, ap, arith}
+use Rattle.std.proofs.Math.ListN.{set, length-set}
 use Rattle.std.specs.Prelude.{None}
 use Rattle.vg_model.specs.Route.{ip4}
 use Rattle.vg_fib.specs.declared.numbers.Change.TheVariants.{Goes}
-use Rattle.vg_fib.specs.Numbers.{IsHeir, changed_by}
+use Rattle.vg_fib.specs.Numbers.{IsHeir, changed_by, length_at}
 use Rattle.vg_fib.specs.Trie.{IsPut}
+use Rattle.vg_fib.proofs.PrefixLemmas.{are4}
+use Rattle.vg_fib.proofs.NumberLemmas.{best_within}
 use Rattle.vg_fib.proofs.FollowLemmas.{levels_after}
 use Rattle.vg_fib.proofs.trie.Levels.take_out.Goals as goal
+
+pub put-requires-clause-fits : goal.put-requires-clause-fits
+put-requires-clause-fits c =
+    let slots = c.as_slice.result.now in
+    let within = best_within are4 slots (λ k. length_at ip4 slots k ≤ c.args.prefix.len) c.args.prefix.addr c.heir-heir.result c.heir-heir.ensures.best in
+    omega (arith, within, ap length c.as_slice.ensures.value, length-set c.args.slots.now.items c.args.place None, c.requires.few)
 
 pub returns-clause-has : goal.returns-clause-has
 returns-clause-has c =
