@@ -1,5 +1,5 @@
 -- For `heads`: what is read of the first bytes of a packet is what is read of the packet.
-use Rattle.std.proofs.Common.{◌≡◌, ℕ, ◌+◌, ◌-◌, ◌*◌, ◌/◌, ◌%◌, ◌≤◌, inl, inr, Bool, not, ◌==◌, List, length, take, drop, sym, ap, ◌∙◌, arith, length-drop}
+use Rattle.std.proofs.Common.{◌≡◌, ℕ, ◌+◌, ◌-◌, ◌*◌, ◌/◌, ◌%◌, ◌<◌, ◌≤◌, inl, inr, refl, Bool, true, false, not, ◌==◌, List, length, take, drop, sym, ap, ◌∙◌, arith, length-drop}
 use Rattle.std.specs.Prelude.{Option, Some, None, nat_lt, nat_le, ◌||◌, ◌&&◌, if◌then◌else◌, bytes_eq, slice_index, min}
 use Rattle.std.specs.Int.{w16, w32, from_be_bytes}
 use Rattle.std.proofs.lemmas.Bool.{cases_lt, lt-ltb, le-ltb, le-leb, lt-leb}
@@ -102,6 +102,27 @@ header_long c are sound =
     let size : length (head_of c.packet) ≡ min (2112 - c.packet.room) (length c.packet.bytes) = length-take (2112 - c.packet.room) c.packet.bytes in
     let room = are.room in
     omega (arith, size, long, room)
+
+-- so that has the Ethernet header
+pub head_long : (c : Contents) → AreContents c → (head : List ℕ) → head ≡ head_of c.packet → header_fault (drop 14 c.packet.bytes) ≡ None → 14 ≤ length head
+head_long c are head is sound =
+    let long = header_long c are sound in
+    let size : length head ≡ length (head_of c.packet) = ap length is in
+    omega (arith, long, size)
+
+-- the first check of a header fails where it is too short
+first_short : (short : Bool) (rest : Option DropError) → short ≡ true → Some errors.Short ≡ (if short then Some errors.Short else rest)
+first_short true rest h = refl
+first_short false rest h = cc
+
+-- a packet whose head has no Ethernet header has no IPv4 header
+pub short_fault : (c : Contents) → AreContents c → (head : List ℕ) → head ≡ head_of c.packet → length head < 14 → Some errors.Short ≡ header_fault (drop 14 c.packet.bytes)
+short_fault c are head is short =
+    let d : List ℕ = drop 14 c.packet.bytes in
+    let size : length head ≡ min (2112 - c.packet.room) (length c.packet.bytes) = ap length is ∙ length-take (2112 - c.packet.room) c.packet.bytes in
+    let behind : length d ≡ length c.packet.bytes - 14 = length-drop 14 c.packet.bytes in
+    let room = head_room c are in
+    first_short (nat_lt (length d) 20) _ (lt-ltb (length d) 20 (omega (arith, size, behind, short, room)))
 
 pub datagram_long : (c : Contents) → AreContents c → header_fault (drop 14 c.packet.bytes) ≡ None → 20 ≤ length (drop 14 (head_of c.packet))
 datagram_long c are sound =

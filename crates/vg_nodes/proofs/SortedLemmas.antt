@@ -1,3 +1,4 @@
+-- For `each_index_is_in_one_list`:
 -- What is counted of a frame is counted of the lists into which it was sorted.
 use Rattle.std.proofs.Common.{◌≡◌, ℕ, ◌+◌, List, [], ◌∷◌, refl, sym, ap, ◌∙◌, arith, zero-add}
 use Rattle.std.specs.Prelude.{Option, Some, None, option_map, option_and_then, unwrap_or}

@@ -14,7 +14,7 @@ use vg_frame::{BufferMemory, Frame};
 
 /// Visits the packets of a frame at a node, in order, and puts the index of each into the list that its step names: each index
 /// of the frame stands in exactly one list, and in each list they stand in the frame's order.
-#[inline]
+#[inline(always)]
 pub fn dispatch_frame<K: KindSet>(
     kinds: &K,
     fork: &Fork,

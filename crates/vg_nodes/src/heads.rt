@@ -1,5 +1,5 @@
 //! What is read of a packet: all of it stands in the packet's head.
-ghost use Rattle.std.specs.Prelude.{◌≡◌, ◌≤◌, true, nat_lt, length, take};
+ghost use Rattle.std.specs.Prelude.{◌≡◌, ◌≤◌, true, nat_lt, length, take, drop};
 ghost use Rattle.vg_model.specs.Bytes.{number16_at};
 ghost use Rattle.vg_model.specs.Hash.{flow_hash as hash_of_flow};
 ghost use Rattle.vg_model.specs.Visit as visits;
@@ -8,8 +8,8 @@ ghost use Rattle.vg_pool.specs.Contents.{Passes, head_of};
 
 use vg_model::{DropError, HashKind, Interface};
 use vg_packet::headers::{
-    ETHERNET_LEN, ETHERTYPE, datagram, destination, header_fault, header_len, is_foreign,
-    time_to_live, total_len,
+    ETHERNET_LEN, ETHERTYPE, destination, header_fault, header_len, is_foreign, time_to_live,
+    total_len,
 };
 use vg_packet::{flow_hash, u16_at};
 use vg_pool::{Buffer, know_contents};
@@ -48,13 +48,26 @@ pub(crate) fn hash_of(kind: HashKind, buffer: &Buffer) -> u32
     flow_hash(kind, buffer.head())
 }
 
+// What stands behind the Ethernet header of a head that has one.
+#[inline]
+fn datagram_in(head: &[u8]) -> &[u8]
+    requires { ethernet_len ≤ length head.now }
+    ensures { result.now ≡ drop ethernet_len head.now }
+{
+    &head[ETHERNET_LEN..]
+}
+
 /// The first check of the packet's IPv4 header that fails.
 #[inline]
 pub(crate) fn fault_of(buffer: &Buffer) -> Option<DropError>
     ensures { result ≡ visits.header_fault (visits.datagram buffer.now.packet) }
 {
-    let len = (buffer.len() as usize).saturating_sub(ETHERNET_LEN);
-    header_fault(datagram(buffer.head()), len)
+    let head = buffer.head();
+    if head.len() < ETHERNET_LEN {
+        return Some(DropError::Short);
+    }
+    let len = buffer.len() as usize - ETHERNET_LEN;
+    header_fault(datagram_in(head), len)
 }
 
 /// The destination address of a packet with the mark.
@@ -63,7 +76,7 @@ pub(crate) fn destination_of(buffer: &Buffer) -> u32
     requires { buffer.now.packet.checked ≡ true }
     ensures { result ≡ visits.destination (visits.datagram buffer.now.packet) }
 {
-    destination(datagram(buffer.head()))
+    destination(datagram_in(buffer.head()))
 }
 
 /// The time to live of a packet with the mark.
@@ -72,7 +85,7 @@ pub(crate) fn time_to_live_of(buffer: &Buffer) -> u8
     requires { buffer.now.packet.checked ≡ true }
     ensures { result ≡ visits.time_to_live (visits.datagram buffer.now.packet) }
 {
-    time_to_live(datagram(buffer.head()))
+    time_to_live(datagram_in(buffer.head()))
 }
 
 /// The total length of a packet with the mark.
@@ -81,7 +94,7 @@ pub(crate) fn total_len_of(buffer: &Buffer) -> u16
     requires { buffer.now.packet.checked ≡ true }
     ensures { result ≡ visits.total_len (visits.datagram buffer.now.packet) }
 {
-    total_len(datagram(buffer.head()))
+    total_len(datagram_in(buffer.head()))
 }
 
 /// Nothing happens. The head of a packet with the mark has the Ethernet header and an IPv4 header.
@@ -100,6 +113,6 @@ pub(crate) fn header_of(buffer: &Buffer) -> &[u8]
     ensures header { let d = visits.datagram buffer.now.packet in result.now ≡ take (visits.header_len d) d }
     ensures long { 34 ≤ length (head_of buffer.now.packet) }
 {
-    let datagram = datagram(buffer.head());
+    let datagram = datagram_in(buffer.head());
     &datagram[..header_len(datagram)]
 }

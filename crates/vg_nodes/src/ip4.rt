@@ -66,26 +66,26 @@ impl KindSet for Ip4Kinds {
     ) {
         know_interfaces(fork);
         match kind {
-            Kind::EthernetInput => visit_each(indexes, memory, out, |buffer| {
+            Kind::EthernetInput => visit_each(indexes, memory, out, move |buffer| {
                 ethernet_input(fork, buffer)
             }),
             Kind::Ip4Input => visit_each(indexes, memory, out, |buffer| ip4_input(buffer)),
-            Kind::Ip4Lookup => visit_each(indexes, memory, out, |buffer| {
+            Kind::Ip4Lookup => visit_each(indexes, memory, out, move |buffer| {
                 ip4_lookup(fork, buffer)
             }),
-            Kind::Ip4Rewrite => visit_each(indexes, memory, out, |buffer| {
+            Kind::Ip4Rewrite => visit_each(indexes, memory, out, move |buffer| {
                 ip4_rewrite(fork, buffer)
             }),
-            Kind::InterfaceOutput => visit_each(indexes, memory, out, |buffer| {
+            Kind::InterfaceOutput => visit_each(indexes, memory, out, move |buffer| {
                 interface_output(fork, buffer)
             }),
-            Kind::InterfaceTx => visit_each(indexes, memory, out, |buffer| {
+            Kind::InterfaceTx => visit_each(indexes, memory, out, move |buffer| {
                 interface_tx(fork, buffer)
             }),
-            Kind::WorkerHandoff(kind) => visit_each(indexes, memory, out, |buffer| {
+            Kind::WorkerHandoff(kind) => visit_each(indexes, memory, out, move |buffer| {
                 worker_handoff(kind, buffer)
             }),
-            _ => visit_each(indexes, memory, out, |buffer| {
+            _ => visit_each(indexes, memory, out, move |buffer| {
                 self.visit_at(kind, fork, node, buffer)
             }),
         }

@@ -65,7 +65,7 @@ pub trait KindSet: Copy {
         ensures sorted { IsSortedBy (meaning fork.now.graph node) memory.old indexes.now out.new }
         ensures visited { IsVisitedBy (meaning fork.now.graph node) indexes.now memory.old memory.new }
     {
-        visit_each(indexes, memory, out, |buffer| {
+        visit_each(indexes, memory, out, move |buffer| {
             self.visit_at(kind, fork, node, buffer)
         });
     }

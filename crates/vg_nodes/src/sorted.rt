@@ -1,5 +1,6 @@
 //! A frame's indexes, sorted by what becomes of their packets.
-ghost use Rattle.std.specs.Prelude.{◌≡◌, IfOk};
+ghost use Rattle.std.specs.Prelude.{◌≡◌, ◌<◌, [], ◌∷◌, ◌++◌, length, IfOk};
+ghost use Rattle.vg_frame.specs.Pending.{frame_size};
 ghost use Rattle.vg_nodes.specs.Sorting.{HasRoom};
 
 use crate::entries::Entries;
@@ -59,9 +60,19 @@ impl Sorted {
         match step {
             Step::Next { slot } => self.next.push(index, slot),
             Step::Tx { interface } => self.tx.push(index, interface),
-            Step::Dropped { error } => self.drops.push(index, error),
+            Step::Dropped { error } => self.put_dropped(index, error),
             Step::Hand { hash } => self.hands.push(index, hash),
         }
+    }
+
+    // Puts an index behind those whose packets the node drops. It stands apart, so that the loops over frames are short.
+    #[cold]
+    #[inline(never)]
+    fn put_dropped(&mut self, index: u32, error: DropError)
+        requires { length self.old.drops < frame_size }
+        ensures { self.new ≡ record self.old { drops = self.old.drops ++ (index, error) ∷ [] } }
+    {
+        self.drops.push(index, error);
     }
 
     /// Removes all indexes from the lists. Their room stays.

@@ -14,7 +14,9 @@ use vg_pool::Buffer;
 /// Visits the packet of each index in order, and puts the index into the list that the step names. Whatever the visit is known to make of
 /// a packet, it has made of each of them.
 ///
-/// It is compiled for each visit by itself, so that a loop has its visit in line.
+/// It is compiled for each visit by itself, so that a loop has its visit in line and the registers to itself. What a visit captures by
+/// `move` is in one, too.
+#[inline(never)]
 pub fn visit_each<F: Fn(&mut Buffer) -> Step>(
     indexes: &[u32],
     memory: &mut BufferMemory,

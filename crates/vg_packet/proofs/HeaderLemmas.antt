@@ -1,4 +1,4 @@
--- A frame's headers written anew.
+-- For the clause of `rewrite`: a frame's headers written anew.
 use Rattle.std.proofs.Common.{◌≡◌, ◌≢◌, ℕ, ◌+◌, ◌-◌, ◌≤◌, Bool, true, false, not, ◌||◌, ◌==◌, List, ◌++◌, length, take, drop, get_or, refl, sym, ap, subst, ◌∙◌, arith, length-take-le, length-drop, length-append, append_assoc}
 use Rattle.std.specs.Prelude.{None, nat_lt, slice_index}
 use Rattle.std.proofs.lemmas.Bool.{eqb-false}

@@ -1,8 +1,7 @@
--- For `verify_header` and `folded`: sums of 16-bit words and of pairs of them, and what they fold to.
-use Rattle.std.proofs.Common.{◌≡◌, ℕ, zero, suc, ◌+◌, ◌*◌, ◌/◌, ◌%◌, ◌^◌, ◌<◌, ◌≤◌, Bool, true, false, List, [], ◌∷◌, ◌++◌, length, get_or, bit_and, refl, sym, ap, ◌∙◌, inl, inr, arith}
+-- For `verify_header` and `raised_checksum`: sums of 16-bit words and of pairs of them, and what they fold to.
+use Rattle.std.proofs.Common.{◌≡◌, ℕ, zero, suc, ◌+◌, ◌*◌, ◌%◌, ◌^◌, ◌<◌, ◌≤◌, Bool, true, false, List, [], ◌∷◌, ◌++◌, length, get_or, refl, sym, ap, ◌∙◌, inl, inr, arith}
 use Rattle.std.specs.Prelude.{◌≢◌, ◌↔◌}
 use Rattle.std.proofs.lemmas.Bool.{cases_lt, lt-ltb, le-ltb, eq-eqb, ne_eqb, false≢true}
-use Rattle.std.proofs.lemmas.Nat.{and_mask}
 use Rattle.vg_model.specs.Header.{header_sum, word_sum, verifies, folded_within, folded}
 use Rattle.vg_model.specs.Valid.{AreBytes}
 use Rattle.vg_model.proofs.Checksums.{IsFolded, header_sum_is, folded_once}
@@ -40,10 +39,6 @@ pub folded_twice : (sum : ℕ) → sum < 2 ^ 32 → folded sum ≡ folded_once (
 folded_twice zero h = refl
 folded_twice (suc zero) h = refl
 folded_twice (suc (suc times)) h = within_twice times (suc (suc times)) h
-
--- a fold by a mask and a shift
-pub folded_by_mask : (sum : ℕ) → bit_and sum 65535 + sum / 65536 ≡ folded_once sum
-folded_by_mask sum = ap (λ low. low + sum / 65536) (and_mask sum 16)
 
 -- nothing has the sum 0
 pub word_sum-none : (rest : List ℕ) → length rest < 2 → length rest % 2 ≡ 0 → word_sum rest ≡ 0

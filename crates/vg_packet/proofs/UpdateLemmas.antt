@@ -1,5 +1,6 @@
+-- For the clauses of `lower_ttl` and `lowered_checksum`, and for `lowered_header_verifies` and `update_is_the_checksum_anew`:
 -- The update of a checksum as the time to live falls.
-use Rattle.std.proofs.Common.{◌≡◌, ◌≢◌, ℕ, zero, suc, ◌+◌, ◌-◌, ◌*◌, ◌≤◌, List, [], ◌∷◌, ◌++◌, length, take, drop, sym, ap, ◌∙◌, arith, length-drop, append_assoc}
+use Rattle.std.proofs.Common.{◌≡◌, ◌≢◌, ℕ, zero, suc, ◌+◌, ◌-◌, ◌*◌, ◌<◌, ◌≤◌, List, [], ◌∷◌, ◌++◌, length, take, drop, sym, ap, ◌∙◌, arith, length-drop, append_assoc}
 use Rattle.std.proofs.lemmas.Bool.{eq-eqb, eqb-true}
 use Rattle.std.proofs.lemmas.List.{drop_all, take_rest, drop-drop, append-nil}
 use Rattle.std.proofs.Math.ListN.{length-set}
@@ -25,6 +26,32 @@ pub updated_at_the_end : (check before after : ℕ) → after ≤ 65535 → upda
 updated_at_the_end check before after h =
     ap complement (folded_twice (complement check + complement before + after) (omega (arith, h))
     ∙ three_words (complement check) (complement before) after (omega arith) (omega arith) h)
+
+-- what is added up for a word that is less by 256
+raised_sum : (check word : ℕ) → check ≤ 65535 → 256 ≤ word → word ≤ 65535 → complement check + complement word + (word - 256) ≡ 130814 - check
+raised_sum check word small some few = omega (arith, small, some, few)
+
+-- the update for such a word, with no carry
+pub raised_below : (check word : ℕ) → check + 256 < 65535 → 256 ≤ word → word ≤ 65535 → check + 256 ≡ updated check word (word - 256)
+raised_below check word below some few =
+    let small : check ≤ 65535 = omega (arith, below) in
+    let last : complement (folded_once (folded_once (130814 - check))) ≡ check + 256 = omega (arith, below) in
+    sym (ap complement (folded_twice (complement check + complement word + (word - 256)) (omega (arith, few))
+    ∙ ap (λ s. folded_once (folded_once s)) (raised_sum check word small some few))
+    ∙ last)
+
+-- and with one
+pub raised_above : (check word : ℕ) → check ≤ 65535 → 65535 ≤ check + 256 → 256 ≤ word → word ≤ 65535 → check + 256 - 65535 ≡ updated check word (word - 256)
+raised_above check word small above some few =
+    let last : complement (folded_once (folded_once (130814 - check))) ≡ check + 256 - 65535 = omega (arith, small, above) in
+    sym (ap complement (folded_twice (complement check + complement word + (word - 256)) (omega (arith, few))
+    ∙ ap (λ s. folded_once (folded_once s)) (raised_sum check word small some few))
+    ∙ last)
+
+-- the word of a time to live that is at least 1
+pub word_of : (h : List ℕ) → Twelve h → AreBytes h → 1 ≤ slice_index h 8 → (256 ≤ number16_at h 8) × (number16_at h 8 ≤ 65535)
+word_of h (twelve b0 b1 b2 b3 b4 b5 b6 b7 b8 b9 b10 b11 rest) b alive =
+    (omega (arith, alive), omega (arith, b.1.1.1.1.1.1.1.1.0, b.1.1.1.1.1.1.1.1.1.0))
 
 -- where a header verifies, the update is the checksum of the header with its time to live less by one
 pub lowered_checksum_is : (h : List ℕ) → Twelve h → AreBytes h → header_sum h ≡ 65535 → slice_index h 0 ≢ 0 → 1 ≤ slice_index h 8

@@ -1,7 +1,7 @@
 //! The checksum of an IPv4 header (RFC 791, section 3.1; RFC 1071), and its update (RFC 1624).
-ghost use Rattle.std.specs.Prelude.{◌≡◌, ◌≢◌, ◌↔◌, ◌+◌, ◌-◌, ◌<◌, ◌≤◌, ◌%◌, ◌^◌, length, slice_index, slice_set, IsTrue};
+ghost use Rattle.std.specs.Prelude.{◌≡◌, ◌≢◌, ◌↔◌, ℕ, ◌+◌, ◌-◌, ◌<◌, ◌≤◌, ◌%◌, ◌^◌, length, slice_index, slice_set, IsTrue};
 ghost use Rattle.vg_model.specs.Bytes.{overwritten};
-ghost use Rattle.vg_model.specs.Header.{verifies, checksum as checksum_of, folded as folded_sum, lowered, word_sum as sum_of_words};
+ghost use Rattle.vg_model.specs.Header.{verifies, checksum as checksum_of, lowered, word_sum as sum_of_words};
 ghost use Rattle.vg_packet.specs.Sums.{pair_sum as sum_of_pairs};
 ghost use Rattle.vg_packet.specs.Update.{updated};
 
@@ -34,8 +34,7 @@ pub fn verify_header(header: &[u8]) -> bool
 
 /// Lowers a header's time to live by one, and writes the checksum that the changed header has (RFC
 /// 1812, section 5.3.1). `header` is as [`verify_header`] takes it, and verifies; its first byte isn't
-/// 0, and its time to live is at least 1. The checksum comes from the old one and the word that changes
-/// (RFC 1624, equation 3), so that only these two words are read.
+/// 0, and its time to live is at least 1. The checksum comes from the old one (RFC 1624, equation 3), so that no other word is read.
 pub fn lower_ttl(header: &mut [u8])
     requires even { length header.old % 2 ≡ 0 }
     requires least { 20 ≤ length header.old }
@@ -71,16 +70,19 @@ fn lowered_checksum(header: &[u8]) -> u16
     requires alive { 1 ≤ slice_index header.now 8 }
     ensures { result ≡ checksum_of (slice_set header.now 8 (slice_index header.now 8 - 1)) }
 {
-    let word = u16_at(header, TIME_TO_LIVE);
-    updated_checksum(u16_at(header, CHECKSUM), word, word - 0x0100)
+    raised_checksum(u16_at(header, CHECKSUM))
 }
 
-/// The checksum after one 16-bit word has changed, from the checksum before, the word before and the
-/// word after (RFC 1624, equation 3).
-fn updated_checksum(checksum: u16, before: u16, after: u16) -> u16
-    ensures { result ≡ updated checksum before after }
+/// The checksum after the word of the time to live is less by 0x0100, from the checksum before (RFC 1624, equation 3). It is the same
+/// for every such word: more by 0x0100, with the carry brought back in, and 0 in place of 0xffff.
+fn raised_checksum(checksum: u16) -> u16
+    ensures { (word : ℕ) → 256 ≤ word → word ≤ 65535 → result ≡ updated checksum word (word - 256) }
 {
-    !folded(u32::from(!checksum) + u32::from(!before) + u32::from(after))
+    let sum = u32::from(checksum) + 0x0100;
+    if sum < 0xffff {
+        return sum as u16;
+    }
+    (sum - 0xffff) as u16
 }
 
 /// Whether all 16 bits of the sum are set once its carries are brought back in. Bringing a carry back in takes 0xffff away and leaves 0
@@ -120,15 +122,6 @@ fn word_sum(bytes: &[u8]) -> u32
         sum += u32::from(BigEndian::read_u16(word));
     }
     sum
-}
-
-/// A sum of 16-bit words with its carries added to its lower 16 bits, twice: the first time can carry
-/// once more.
-fn folded(sum: u32) -> u16
-    ensures { result ≡ folded_sum sum }
-{
-    let once = (sum & 0xffff) + (sum >> 16);
-    ((once & 0xffff) + (once >> 16)) as u16
 }
 
 #[cfg(test)]

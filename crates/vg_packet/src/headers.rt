@@ -19,6 +19,9 @@ pub const ETHERTYPE_IPV4: u16 = 0x0800;
 /// The length of an IPv4 header without options.
 pub const LEAST_HEADER: usize = 20;
 
+// The first byte of an IPv4 header without options: version 4, and a length of five words.
+const PLAIN: u8 = 0x45;
+
 /// Where the total length stands in an IPv4 header.
 const TOTAL_LENGTH: usize = 2;
 
@@ -80,8 +83,30 @@ pub fn destination(datagram: &[u8]) -> u32
 
 /// The first check that fails of the IPv4 header of a datagram of `len` bytes that begins with these (RFC 1812, section 5.2.2). They are
 /// at least 60, the most that a header has, or all of the datagram.
-#[inline]
+#[inline(always)]
 pub fn header_fault(head: &[u8], len: usize) -> Option<DropError>
+    requires { min len 60 ≤ length head.now }
+    ensures { result ≡ visits.fault_within head.now len }
+{
+    if len >= LEAST_HEADER && head[0] == PLAIN {
+        first_fault(head, len)
+    } else {
+        first_fault_apart(head, len)
+    }
+}
+
+// The same for any header. It stands apart, so that the checks of a header without options are short.
+#[inline(never)]
+fn first_fault_apart(head: &[u8], len: usize) -> Option<DropError>
+    requires { min len 60 ≤ length head.now }
+    ensures { result ≡ visits.fault_within head.now len }
+{
+    first_fault(head, len)
+}
+
+// The checks one after the other. Where the first byte is known, so are the version and the header's length.
+#[inline(always)]
+fn first_fault(head: &[u8], len: usize) -> Option<DropError>
     requires { min len 60 ≤ length head.now }
     ensures { result ≡ visits.fault_within head.now len }
 {

@@ -79,8 +79,10 @@ fn rewrite(buffer: &mut Buffer, adjacency: &Adjacency, interface: &Interface)
     requires alive { visits.time_to_live (visits.datagram buffer.old.packet) ≢ 1 }
     ensures { buffer.new ≡ record buffer.old { packet = record buffer.old.packet { bytes = visits.rewritten adjacency.now interface.now buffer.old.packet.bytes } } }
 {
-    buffer.write(0, &adjacency.mac.0);
-    buffer.write(6, &interface.mac.0);
+    let neighbor = adjacency.mac.0;
+    let own = interface.mac.0;
+    buffer.write(0, &neighbor);
+    buffer.write(6, &own);
     lower_header(buffer);
 }
 
