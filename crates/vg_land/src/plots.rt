@@ -1,7 +1,7 @@
 //! Lists of bytes that lie in one block, with an owner each.
 ghost use Rattle.std.specs.Prelude.{◌≡◌, ◌+◌, ◌-◌, ◌*◌, ◌^◌, ◌<◌, ◌≤◌, [], ◌++◌, length, take, drop, replicate, IfOk};
 ghost use denote.RawPtr.{InBlock};
-ghost use Rattle.vg_land.specs.Ground.{Ground, Loan};
+ghost use Rattle.vg_land.specs.Ground.{Ground, Loan, laid_at};
 
 use crate::{Estate, Part, Tether, detach, house, vacate};
 use std::alloc::{AllocError, Global};
@@ -53,14 +53,54 @@ impl Plot {
         self.bytes.as_mut_slice()[at..at + bytes.len()].copy_from_slice(bytes);
     }
 
-    /// Appends zeros, up to so many bytes; none where it has as many.
-    pub fn reach(&mut self, len: usize)
+    /// Puts these bytes in from `at` on. The list then ends behind them, or is as long as it was; where it ended before `at`, zeros stand
+    /// in between.
+    #[inline]
+    pub fn lay(&mut self, at: usize, bytes: &[u8])
+        requires { at + length bytes.now ≤ self.old.cap }
+        ensures bytes { self.new ≡ record self.old { items = laid_at self.old.items at bytes.now } }
+        ensures len { at + length bytes.now ≤ length self.new.items }
+    {
+        if self.bytes.len() < at + bytes.len() {
+            return self.lay_beyond(at, bytes);
+        }
+        self.write(at, bytes);
+    }
+
+    // The same for bytes that reach beyond the end of the list. Those beyond it are written once, as they are appended.
+    #[cold]
+    #[inline(never)]
+    fn lay_beyond(&mut self, at: usize, bytes: &[u8])
+        requires room { at + length bytes.now ≤ self.old.cap }
+        requires beyond { length self.old.items < at + length bytes.now }
+        ensures bytes { self.new ≡ record self.old { items = laid_at self.old.items at bytes.now } }
+        ensures len { at + length bytes.now ≤ length self.new.items }
+    {
+        self.reach(at);
+        let within = self.as_slice().len() - at;
+        let (first, rest) = bytes.split_at(within);
+        self.write(at, first);
+        self.append(rest);
+    }
+
+    // Appends zeros, up to so many bytes; none where it has as many.
+    fn reach(&mut self, len: usize)
         requires { len ≤ self.old.cap }
         ensures bytes { self.new ≡ record self.old { items = self.old.items ++ replicate (len - length self.old.items) 0 } }
         ensures len { len ≤ length self.new.items }
     {
         for _ in self.bytes.len()..len {
             self.bytes.push_reserved(0);
+        }
+    }
+
+    // Appends these bytes.
+    fn append(&mut self, bytes: &[u8])
+        requires { length self.old.items + length bytes.now ≤ self.old.cap }
+        ensures { self.new ≡ record self.old { items = self.old.items ++ bytes.now } }
+    {
+        for byte in bytes {
+            self.bytes.push_reserved(*byte);
         }
     }
 }

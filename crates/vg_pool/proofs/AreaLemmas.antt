@@ -1,7 +1,9 @@
 -- For the calls of `Area`: a part of the bytes of a buffer, after some of them are written.
-use Rattle.std.proofs.Common.{◌≡◌, ℕ, ◌+◌, ◌-◌, ◌≤◌, List, ◌++◌, length, take, drop, refl, sym, ap, ◌∙◌, arith, append_assoc, length-drop, length-take-le}
+use Rattle.std.proofs.Common.{◌≡◌, ℕ, ◌+◌, ◌-◌, ◌≤◌, List, ◌++◌, length, take, drop, replicate, refl, sym, ap, ◌∙◌, arith, append_assoc, length-drop, length-take-le}
 use Rattle.std.proofs.lemmas.List.{drop-drop, drop-take, drop_at, take_at, take-take, drop-append-le}
 use Rattle.std.proofs.Math.Seq.{take-append-add}
+use Rattle.vg_land.specs.Ground.{laid_at}
+use Rattle.vg_land.proofs.Laying.{length_reached}
 use Rattle.vg_model.specs.Bytes.{overwritten}
 
 -- so many bytes of two parts, where the first has no more
@@ -24,11 +26,13 @@ from_written xs ys s n within few =
     ∙ take_past ys (drop (length ys) (drop s xs)) n few
     ∙ ap (λ z. ys ++ take (n - length ys) z) (drop-drop (length ys) s xs)
 
--- the bytes that were written at a place
-pub filled : (xs ys : List ℕ) (s : ℕ) → s + length ys ≤ length xs → take (s + length ys - s) (drop s (take s xs ++ (ys ++ drop (s + length ys) xs))) ≡ ys
-filled xs ys s within =
+-- the bytes that were laid at a place
+pub filled : (xs ys : List ℕ) (s : ℕ) → take (s + length ys - s) (drop s (laid_at xs s ys)) ≡ ys
+filled xs ys s =
+    let long : List ℕ = xs ++ replicate (s - length xs) 0 in
+    let size : length long ≡ length xs + (s - length xs) = length_reached xs s in
     let rest : List ℕ = drop (s + length ys) xs in
-    ap (take (s + length ys - s)) (drop_at (take s xs) (ys ++ rest) s (length-take-le s xs (omega (arith, within))))
+    ap (take (s + length ys - s)) (drop_at (take s long) (ys ++ rest) s (length-take-le s long (omega (arith, size))))
     ∙ ap (λ k. take k (ys ++ rest)) (let same : s + length ys - s ≡ length ys = omega arith in same)
     ∙ take_at ys rest (length ys) refl
 

@@ -1,4 +1,4 @@
--- For `laws::parts_are_the_packet` and `Buffer::copy_into`: the parts of a packet, joined.
+-- For `laws::parts_are_the_packet` and `Buffer::copy_pieces`: the parts of a packet, joined.
 use Rattle.std.proofs.Common.{◌≡◌, ℕ, zero, suc, ◌+◌, ◌-◌, ◌*◌, ◌≤◌, List, ◌++◌, length, take, drop, sym, ap, subst, ◌∙◌, arith, length-drop}
 use Rattle.std.proofs.lemmas.List.{take-append-drop, take-take, take_all, drop-take, drop-drop, length-take}
 use Rattle.std.specs.Prelude.{min}

@@ -78,11 +78,9 @@ impl Area {
         requires { room + length bytes.now ≤ area_size }
         ensures { self.new ≡ record { room = room; bytes = bytes.now } }
     {
-        let end = room + bytes.len();
-        self.plot.reach(end);
+        self.plot.lay(room, bytes);
         self.start = room;
-        self.end = end;
-        self.plot.write(room, bytes);
+        self.end = room + bytes.len();
     }
 
     /// Puts these bytes in place of those that stand from `at` on.

@@ -1,5 +1,6 @@
 //! Buffers: one packet each, with its metadata, over one to five buffers of 2,048 bytes.
 ghost use Rattle.std.specs.Prelude.{◌≡◌, ◌+◌, ◌*◌, ◌<◌, ◌≤◌, true, false, Some, [], ◌∷◌, ◌++◌, length, min, vec_len, vec_capacity};
+ghost use Rattle.std.specs.Bool.{MatchBool};
 ghost use Rattle.vg_model.specs.Packet.{first_room, longest_packet};
 ghost use Rattle.vg_model.specs.Tag as tags;
 ghost use Rattle.vg_model.specs.Valid.{most_room, most_extent};
@@ -156,8 +157,30 @@ impl Buffer {
     }
 
     /// Puts the packet's bytes behind a list that has room for them, and takes no memory.
-    #[inline]
+    #[inline(always)]
     pub fn copy_into(&self, list: &mut Vec<u8>)
+        requires { vec_len list.old + length self.now.packet.bytes ≤ vec_capacity list.old }
+        ensures bytes { list.new.items ≡ list.old.items ++ self.now.packet.bytes }
+        ensures room { vec_capacity list.old ≤ vec_capacity list.new }
+    {
+        if self.is_single() {
+            append(list, self.head());
+        } else {
+            self.copy_pieces(list);
+        }
+    }
+
+    // Whether the chain has one buffer.
+    #[inline]
+    fn is_single(&self) -> bool
+        ensures { MatchBool result (self.now.pieces ≡ 1) (1 < self.now.pieces) }
+    {
+        self.block.rest.is_empty()
+    }
+
+    // The same as `copy_into`, buffer by buffer. It stands apart, so that the copy of a packet in one buffer is short.
+    #[inline(never)]
+    fn copy_pieces(&self, list: &mut Vec<u8>)
         requires { vec_len list.old + length self.now.packet.bytes ≤ vec_capacity list.old }
         ensures bytes { list.new.items ≡ list.old.items ++ self.now.packet.bytes }
         ensures room { vec_capacity list.old ≤ vec_capacity list.new }

@@ -15,7 +15,7 @@
 //!
 //! [`Cache::receive`], [`Buffer::fill`] and [`Buffer::lay`] copy a packet in, and [`Buffer::copy_into`] copies one out; [`Buffer::cut`] and [`Buffer::tag`] move its
 //! first twelve bytes; [`Buffer::write`] copies in what it is given; no other call copies any bytes of a packet. The bytes of a buffer aren't
-//! written as the pool is made: a packet that reaches further into a buffer than any before it writes zeros there first.
+//! written as the pool is made: they are as a packet's bytes are copied in, and the room in front of these is filled with zeros, once.
 //!
 //! The pool's book says where the buffers are: each of the total is in the pool's list or is one of the units out, and these are what
 //! was ever taken without having been given back. Two ledgers carry the proof, and cost nothing when it runs. Type parameters name them, `T` for

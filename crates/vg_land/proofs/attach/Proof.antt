@@ -1,4 +1,4 @@
--- `attach` hands the bytes to what waits for them. Assumes `Logic`.
+-- For `attach`: it hands the bytes to what waits for them. Assumes `Logic`.
 use Rattle.std.proofs.Common.{◌≡◌, List, [], ◌∷◌, ◌++◌, refl, subst}
 use seplogic.Ra.Ura.{Ura}
 use mir.Syntax.{Fn, Args, Dict, a_type, dcons, dnil}

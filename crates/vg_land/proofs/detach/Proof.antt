@@ -1,4 +1,4 @@
--- `detach` takes the bytes out, and leaves the way back. Assumes `Logic`.
+-- For `detach`: it takes the bytes out, and leaves the way back. Assumes `Logic`.
 use Rattle.std.proofs.Common.{◌≡◌, ◌<◌, List, [], ◌∷◌, ◌++◌, refl, sym, subst}
 use seplogic.Ra.Ura.{Ura}
 use mir.Syntax.{Fn, Args, Dict, a_type, dcons, dnil}

@@ -1,4 +1,4 @@
--- `house` hands the run to `lodge`. Assumes `Logic`.
+-- For `house`: it hands the run to `lodge`. Assumes `Logic`.
 use Rattle.std.proofs.Common.{◌≡◌, ℕ, ◌^◌, ◌<◌, List, [], ◌∷◌, ◌++◌, refl, sym, ap, ◌∙◌, subst, Vec}
 use seplogic.Ra.Ura.{Ura}
 use mir.Syntax.{Fn, Callee, a_type, w64, seq, assign, place, rv_opd, copy, return}

@@ -1,4 +1,4 @@
--- `vacate` takes the run from `dislodge`. Assumes `Logic`.
+-- For `vacate`: it takes the run from `dislodge`. Assumes `Logic`.
 use Rattle.std.proofs.Common.{◌≡◌, ◌^◌, ◌<◌, List, [], ◌∷◌, ◌++◌, refl}
 use seplogic.Ra.Ura.{Ura}
 use mir.Syntax.{Fn, Callee, a_type, w64}

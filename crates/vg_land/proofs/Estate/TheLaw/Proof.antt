@@ -1,4 +1,4 @@
--- A `&` to an estate holds a share of its lifetime's token. Assumes `Logic`.
+-- For the law of `Estate`: a `&` to an estate holds a share of its lifetime's token. Assumes `Logic`.
 use mathlib.Core.List.{[], ◌∷◌}
 use base.Fraction.{full_share}
 use base.Fml.{fbor, flft, flent}

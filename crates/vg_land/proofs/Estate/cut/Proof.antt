@@ -1,4 +1,4 @@
--- `cut` parts the borrow. Assumes `Logic`.
+-- For `Estate::cut`: it parts the borrow. Assumes `Logic`.
 use Rattle.std.proofs.Common.{◌-◌, ◌≤◌, sym, ◌≡◌, List, [], ◌∷◌, ◌++◌, refl}
 use seplogic.Ra.Ura.{Ura}
 use mir.Syntax.{Fn, Args, Dict, a_type, dcons, dnil}

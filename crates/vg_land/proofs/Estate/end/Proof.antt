@@ -1,4 +1,4 @@
--- `end` ends the lifetime, and takes the bytes back. Assumes `Logic`.
+-- For `Estate::end`: it ends the lifetime, and takes the bytes back. Assumes `Logic`.
 use Rattle.std.proofs.Common.{List, [], ◌∷◌, ◌++◌, refl}
 use seplogic.Ra.Ura.{Ura}
 use mir.Syntax.{Fn, Args, Dict, a_type, dcons, dnil}

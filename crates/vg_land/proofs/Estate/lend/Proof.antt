@@ -1,4 +1,4 @@
--- `lend` starts the lifetime, and lends each byte for it. Assumes `Logic`.
+-- For `Estate::lend`: it starts the lifetime, and lends each byte for it. Assumes `Logic`.
 use Rattle.std.proofs.Common.{◌≡◌, List, [], ◌∷◌, ◌++◌, refl}
 use seplogic.Ra.Ura.{Ura}
 use mir.Syntax.{Fn, Args, Dict, a_type, dcons, dnil}

@@ -1,4 +1,4 @@
--- `close` puts the bytes back, and with them the two tokens. Assumes `Logic`.
+-- For `Tether::close`: it puts the bytes back, and with them the two tokens. Assumes `Logic`.
 use Rattle.std.proofs.Common.{◌≡◌, List, [], ◌∷◌, ◌++◌, refl, ap}
 use seplogic.Ra.Ura.{Ura}
 use mir.Syntax.{Fn, Args, Dict, a_type, dcons, dnil}

@@ -1,4 +1,4 @@
--- `open` locks the owner's token, then a share of the estate's, and takes the bytes out. Assumes `Logic`.
+-- For `Tether::open`: it locks the owner's token, then a share of the estate's, and takes the bytes out. Assumes `Logic`.
 use Rattle.std.proofs.Common.{◌≡◌, ℕ, List, [], ◌∷◌, ◌++◌, refl, sym}
 use seplogic.Ra.Ura.{Ura}
 use mir.Syntax.{Fn, Args, Dict, a_type, dcons, dnil}

@@ -1,3 +1,4 @@
+-- For `Area::fill`: its clause.
 use Rattle.std.proofs.Common.{ℕ, ◌+◌, ◌-◌, List, length, take, drop, ap, ◌∙◌}
 use Rattle.vg_land.specs.Ground.{Ground}
 use Rattle.vg_pool.specs.Areas.{Held}
@@ -9,5 +10,5 @@ returns c =
     let n : ℕ = length c.args.bytes.now in
     let s : ℕ = c.args.room in
     let with_room : List ℕ → Held = λ bytes. record { room = s; bytes = bytes } in
-    ap (λ (g : Ground). with_room (take (s + n - s) (drop s g.items))) c.write.ensures.bytes
-    ∙ ap with_room (filled c.reach.new.self.items c.args.bytes.now s c.reach.ensures.len)
+    ap (λ (g : Ground). with_room (take (s + n - s) (drop s g.items))) c.lay.ensures.bytes
+    ∙ ap with_room (filled c.self.inside.plot.items c.args.bytes.now s)
