@@ -2,8 +2,10 @@ pub mod Examples
 pub mod BlockExamples
 pub mod SplitLemmas
 pub mod ClassLemmas
+pub mod NumberLemmas
 pub mod PartLemmas
 pub mod FormLemmas
+pub mod CommentLemmas
 pub mod ReadLemmas
 pub mod ValueLemmas
 pub mod AnswerLemmas

@@ -1,11 +1,14 @@
--- For `split_at_first`, `first_part`, `split_at_blank`, `Words::next` and `parse_script`: texts that are split at the first byte of a kind,
+-- For `split_at_first`, `first_line`, `first_part`, `split_at_blank`, `Words::next` and `parse_script`: texts that are split at the first byte of a kind,
 -- their lines and their words.
-use Rattle.std.proofs.Common.{◌≡◌, ◌==◌, ℕ, suc, ◌+◌, ◌<◌, ◌≤◌, Bool, true, false, cond, ltb, List, [], ◌∷◌, length, take, drop, refl, sym, ap, subst, ◌∙◌, arith, ltb-true, ltb-false, lt-ltb, le-ltb, add-one, length-drop}
+use Rattle.std.proofs.Common.{◌≡◌, ◌==◌, ℕ, suc, ◌+◌, ◌<◌, ◌≤◌, Bool, true, false, cond, ltb, List, [], ◌∷◌, length, take, drop, get_or, refl, sym, ap, subst, ◌∙◌, arith, ltb-true, ltb-false, lt-ltb, le-ltb, add-one, length-drop}
 use Rattle.std.proofs.lemmas.List.Splits.{slice_split_first}
+use Rattle.std.proofs.lemmas.List.Sums.{position_or_len_is}
 use Rattle.std.specs.Prelude.{Option, Some, None, unwrap_or, filter, nat_lt}
 use Rattle.std.specs.List.{position_or_len, before_first, after_first, slice_split, onto_first}
 use Rattle.std.proofs.lemmas.List.{take_all, drop_all}
 use Rattle.std.proofs.lemmas.Option.{none-some, same_Some}
+use Rattle.std.specs.Option.{ForSome}
+use Rattle.memchr.specs.Find.{IsFirstByte, is_byte}
 use Rattle.vg_script.specs.Lines.{lines, is_blank, words}
 
 -- all, and nothing
@@ -37,6 +40,30 @@ after_found p xs o found = by_test (ltb (position_or_len p xs) (length xs)) refl
     by_test true e found = ap (λ o. drop (unwrap_or o (length xs) + 1) xs) found
     by_test false e found =
         ap (λ o. drop (unwrap_or o (length xs) + 1) xs) found ∙ drop_all (length xs + 1) xs (omega arith) ∙ sym (after_none p xs (ltb-false _ _ e))
+
+-- where `memchr` found a byte
+is_not : (mark byte : ℕ) → ¬ ((byte == mark) ≡ true) → (byte == mark) ≡ false
+is_not mark byte h = by_test (byte == mark) h
+  where
+    by_test : (b : Bool) → ¬ (b ≡ true) → b ≡ false
+    by_test true h = absurd (h refl)
+    by_test false h = refl
+
+pub found_byte : (mark : ℕ) (text : List ℕ) (o : Option ℕ) → IsFirstByte (is_byte mark) text o
+    → o ≡ cond (ltb (position_or_len (λ byte. byte == mark) text) (length text)) (Some (position_or_len (λ byte. byte == mark) text)) None
+found_byte mark text (Some place) h =
+    let is : position_or_len (λ byte. byte == mark) text ≡ place =
+    position_or_len_is (λ byte. byte == mark) text place 0 (omega (arith, h.0.high)) (λ k below. is_not mark (get_or text k 0) (h.0.before k (omega arith) below)) (λ within. h.1) in
+    let within : position_or_len (λ byte. byte == mark) text < length text = subst (λ n. n < length text) (sym is) h.0.high in
+    sym (ap (λ b. cond b (Some (position_or_len (λ byte. byte == mark) text)) None) (lt-ltb _ _ within) ∙ ap Some is)
+found_byte mark text None h =
+    let is : position_or_len (λ byte. byte == mark) text ≡ length text =
+    position_or_len_is (λ byte. byte == mark) text (length text) 0 (omega arith) (λ k below. is_not mark (get_or text k 0) (h k (omega arith) below)) (λ within. absurd (omega (arith, within))) in
+    sym (ap (λ b. cond b (Some (position_or_len (λ byte. byte == mark) text)) None) (le-ltb _ _ (omega (arith, is))))
+
+pub byte_within : (mark : ℕ) (text : List ℕ) (o : Option ℕ) → IsFirstByte (is_byte mark) text o → ForSome o (λ place. place < length text)
+byte_within mark text (Some place) h = λ x e. subst (λ n. n < length text) (same_Some place x e) h.0.high
+byte_within mark text None h = λ x e. absurd (none-some x e)
 
 -- what is behind is shorter
 pub after_shorter : {X : Type 0} (p : X → Bool) (x : X) (xs : List X) → length (after_first p (x ∷ xs)) ≤ length xs

@@ -118,6 +118,36 @@ pub fn number(word: &[u8], least: u64, most: u64) -> Option<u64>
     }
 }
 
+/// The number that one to three digits say, the first of several not 0.
+fn short_number(word: &[u8]) -> Option<u16>
+    ensures { result ≡ number_of 0 999 word.now }
+{
+    match *word {
+        [ones @ b'0'..=b'9'] => Some(u16::from(ones - b'0')),
+        [tens @ b'1'..=b'9', ones @ b'0'..=b'9'] => {
+            Some(u16::from(tens - b'0') * 10 + u16::from(ones - b'0'))
+        }
+        [
+            hundreds @ b'1'..=b'9',
+            tens @ b'0'..=b'9',
+            ones @ b'0'..=b'9',
+        ] => Some(
+            u16::from(hundreds - b'0') * 100 + u16::from(tens - b'0') * 10 + u16::from(ones - b'0'),
+        ),
+        _ => None,
+    }
+}
+
+/// A number of at most three digits, where it is no greater than this.
+fn number_up_to(word: &[u8], most: u16) -> Option<u16>
+    requires { most ≤ 999 }
+    ensures value { result ≡ number_of 0 most word.now }
+    ensures within { IfSome result (λ number. number ≤ most) }
+{
+    let number = short_number(word)?;
+    if number <= most { Some(number) } else { None }
+}
+
 /// The byte of two hexadecimal digits.
 fn pair(text: &[u8]) -> Option<u8>
     ensures { result ≡ pair_of text.now }
@@ -157,7 +187,7 @@ pub fn mac(word: &[u8]) -> Option<Mac>
 fn byte(word: &[u8]) -> Option<u8>
     ensures { result ≡ number_of 0 255 word.now }
 {
-    let number = number(word, 0, 255)?;
+    let number = number_up_to(word, 255)?;
     Some(number as u8)
 }
 
@@ -177,7 +207,7 @@ pub fn prefix(word: &[u8]) -> Option<Prefix>
 {
     let (addr, len) = split_at_first(word, b'/');
     let addr = address(addr)?;
-    let len = number(len, 0, 32)?;
+    let len = number_up_to(len, 32)?;
     let step = 1u64 << (32 - len);
     if u64::from(addr) % step != 0 {
         return None;
@@ -194,7 +224,7 @@ pub fn prefix6(word: &[u8]) -> Option<Prefix6>
 {
     let (addr, len) = split_at_first(word, b'/');
     let addr = address6(addr)?;
-    let len = number(len, 0, 128)?;
+    let len = number_up_to(len, 128)?;
     if !has_no_host_bits(addr, len as u8) {
         return None;
     }

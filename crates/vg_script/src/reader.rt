@@ -1,16 +1,16 @@
 //! What was read of a script, a line at a time.
-ghost use Rattle.std.specs.Prelude.{◌≡◌, [], ◌∷◌, ◌++◌, MatchResult};
+ghost use Rattle.std.specs.Prelude.{◌≡◌, true, false, [], ◌∷◌, ◌++◌, MatchOption, MatchResult};
+ghost use Rattle.std.specs.List.{list_all};
 ghost use Rattle.vg_script.specs.Keywords.{keyword_row};
-ghost use Rattle.vg_script.specs.Lines.{is_allowed as allowed};
+ghost use Rattle.vg_script.specs.Lines.{without_comment, is_allowed as allowed, is_plain as plain};
 ghost use Rattle.vg_script.specs.Reader.{begun_of, closed_block, Reads};
 ghost use Rattle.vg_script.specs.Reading.{nothing_read, may_stand, with_edit, with_block, with_group, without_block, with_statement, with_words, with_line, closed};
 
-use crate::classes::split_at_first;
 use crate::errors::{ScriptCause, ScriptError};
 use crate::lists::{Blocks, Groups};
 use crate::scripts::{Block, Script};
 use crate::statements::{Keyword, Statement};
-use crate::words::{Words, is_blank};
+use crate::words::Words;
 use std::alloc::Global;
 use std::marker::Model;
 use std::mem;
@@ -225,11 +225,10 @@ impl Reader {
     pub fn read_line(&mut self, line: u32, bytes: &[u8]) -> Result<(), ScriptCause>
         ensures { Reads (with_line line self.old bytes.now) self.new result }
     {
-        let (text, _) = split_at_first(bytes, b'#');
-        if !text.iter().all(|byte| is_allowed(*byte)) {
-            return Err(ScriptCause::Bytes);
+        match before_comment(bytes) {
+            Some(text) => self.read_words(line, &mut Words::of(text)),
+            None => Err(ScriptCause::Bytes),
         }
-        self.read_words(line, &mut Words::of(text))
     }
 
     /// The script that was read, up to its last line.
@@ -256,9 +255,24 @@ fn push<T: Drop>(items: &mut Vec<T>, item: T) -> Result<(), ScriptCause>
     items.push(item).map_err(|_| ScriptCause::Memory)
 }
 
-/// Whether the byte may stand outside comments.
-fn is_allowed(byte: u8) -> bool
-    ensures { result ≡ allowed byte }
+/// What stands before a line's comment; `None` where a byte there isn't allowed.
+fn before_comment(line: &[u8]) -> Option<&[u8]>
+    ensures { MatchOption result (list_all allowed (without_comment line.now) ≡ false) (λ text. (text.now ≡ without_comment line.now) × (list_all allowed text.now ≡ true)) }
 {
-    is_blank(byte) || byte.is_ascii_graphic()
+    let Some(place) = line.iter().position(|byte| !is_plain(*byte)) else {
+        return Some(line);
+    };
+    if line[place] == b'#' {
+        Some(&line[..place])
+    } else {
+        None
+    }
+}
+
+/// Whether the byte may stand outside comments and begins none.
+fn is_plain(byte: u8) -> bool
+    ensures { result ≡ plain byte }
+{
+    // The visible characters but for `#`, and the blanks.
+    matches!(byte, b'$'..=b'~' | b'!' | b'"' | b' ' | b'\t' | b'\r')
 }

@@ -1,12 +1,14 @@
 //! Reading the text of a script.
-ghost use Rattle.std.specs.Prelude.{◌≡◌, ◌≢◌, IfOk};
+ghost use Rattle.std.specs.Prelude.{◌≡◌, ◌≢◌, ◌==◌, IfOk};
+ghost use Rattle.std.specs.List.{before_first, after_first};
 ghost use Rattle.vg_script.specs.Lawful.{IsScript, IsLawful};
 ghost use Rattle.vg_script.specs.Reading.{AnswersRead};
 
-use crate::classes::split_at_first;
+use crate::classes::split_at;
 use crate::errors::{ScriptCause, ScriptError};
 use crate::reader::Reader;
 use crate::scripts::Script;
+use memchr::memchr;
 use std::alloc::Global;
 
 /// The greatest length of a script, in bytes.
@@ -35,7 +37,7 @@ pub fn parse_script(alloc: Global, text: &[u8]) -> Result<Script, ScriptError>
     let mut line = 1;
     let mut rest = text;
     while !rest.is_empty() {
-        let (bytes, others) = split_at_first(rest, b'\n');
+        let (bytes, others) = first_line(rest);
         if let Err(cause) = reader.read_line(line, bytes) {
             return Err(refusal(line, cause));
         }
@@ -43,6 +45,14 @@ pub fn parse_script(alloc: Global, text: &[u8]) -> Result<Script, ScriptError>
         rest = others;
     }
     reader.finish(line - 1)
+}
+
+/// The first line of a text, and what stands behind its line feed.
+fn first_line(text: &[u8]) -> (&[u8], &[u8])
+    ensures before { result.0.now ≡ before_first (λ byte. byte == 10) text.now }
+    ensures after { result.1.now ≡ after_first (λ byte. byte == 10) text.now }
+{
+    split_at(text, memchr(b'\n', text))
 }
 
 /// The refusal of a line; no line is named where memory ran out.

@@ -25,7 +25,7 @@ impl<'a> Model for Words<'a> {
 }
 
 /// Whether it is a space, a tab or a carriage return.
-pub fn is_blank(byte: u8) -> bool
+fn is_blank(byte: u8) -> bool
     ensures { result ≡ blank byte }
 {
     byte == b' ' || byte == b'\t' || byte == b'\r'

@@ -1,14 +1,13 @@
-use Rattle.std.proofs.Common.{sym, true, rules, tests}
-use Rattle.std.proofs.lemmas.Iterator.{YieldsList-from_slice}
-use Rattle.std.proofs.lemmas.Iterator.Search.{all_from_yields_List}
-use Rattle.vg_script.specs.Lines.{is_allowed}
-use Rattle.vg_script.proofs.ReadLemmas.{allowed_line, reads_as}
+-- For `read_line`: the line of the words before its comment, and one with a byte that is not allowed.
+use Rattle.std.proofs.Common.{sym, refl}
+use Rattle.vg_script.proofs.ReadLemmas.{allowed_line, disallowed_line, reads_as}
 use Rattle.vg_script.proofs.reader.Reader.read_line.Goals as goal
 
-pub returns : goal.returns
-returns c =
-    let text = c.split_at_first.result.0.now in
-    let all = all_from_yields_List is_allowed _ _ true c.if-not-all.ensures.ran (YieldsList-from_slice text cc) (λ x b q k. search (rules, tests)) in
+pub returns-in-Some : goal.returns-in-Some
+returns-in-Some c =
     reads_as _ _ c.read_words.new.self c.read_words.result
-    (allowed_line c.args.line c.args.self.now c.args.bytes.now text c.of.result c.split_at_first.ensures.before (sym all) (sym c.of.ensures))
+    (allowed_line c.args.line c.args.self.now c.args.bytes.now c.in-Some.text.now c.of.result c.in-Some.ensures.0 c.in-Some.ensures.1 (sym c.of.ensures))
     c.read_words.ensures
+
+pub returns-in-None : goal.returns-in-None
+returns-in-None c = disallowed_line c.args.line c.args.self.now c.args.bytes.now _ refl c.in-None.ensures
