@@ -1,1 +1,2 @@
 pub mod LogLemmas
+mod HeldLemmas

@@ -1,3 +1,4 @@
+-- For the clauses of `FateLog::push`, `are_in_order`, `put_in_place` and `merged`, and of `FateList::{with, joined, is_in_order, sort}`:
 -- Fates as workers log them.
 use Rattle.std.proofs.Common.{◌≡◌, ℕ, ◌+◌, ◌-◌, ◌<◌, ◌≤◌, ◌^◌, All, List, [], ◌∷◌, ◌++◌, length, map, take, get_or, refl, sym, ap, subst, ◌∙◌, arith, length-append}
 use Rattle.std.specs.List.{AllByRecursion}

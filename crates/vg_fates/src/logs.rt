@@ -1,7 +1,7 @@
 //! What became of packets, as workers log it.
 ghost use Rattle.std.specs.Prelude.{◌≡◌, ◌+◌, ◌<◌, ◌≤◌, ◌^◌, ◌++◌, ◌∷◌, [], ℕ, List, IfOk, IfSome, flat_map, length, map, All, Some, slice_get};
 ghost use Rattle.std.specs.Bool.{OnTrue};
-ghost use Rattle.std.specs.List.{AllByRecursion};
+ghost use Rattle.std.specs.List.{AllByRecursion, HoldsAt, SameBelow};
 ghost use Rattle.std.specs.List.Sorted.{IsPermutation, IsNonDecreasingBy};
 ghost use Rattle.vg_model.specs.declared.fates.Fate.{Fate};
 ghost use Rattle.vg_fates.specs.Logs.{fate_in, fates_in, IsLogged, AreLogged, CanMove, moved_behind};
@@ -195,29 +195,45 @@ fn are_in_order(entries: &[LogEntry], others: &[Fate]) -> bool
     true
 }
 
+// Fills a place with the entry of its number. The entry that stands there goes to the place of its own number, the one that stood
+// there to the next, and so on, until one of this place comes. Answers whether one came.
+fn fill_place(entries: &mut [LogEntry], others: &[Fate], place: usize) -> bool
+    requires { place < length entries.old }
+    ensures same { IsPermutation entries.old entries.new }
+    ensures front { SameBelow entries.old entries.new place }
+    ensures there { OnTrue result (HoldsAt (λ entry. (fate_in others.now entry).number ≡ place) entries.new place) }
+{
+    let mut moving = entries[place];
+    // At most as many entries as there are go to their places. Two with one number would take each other's place without end.
+    for _step in 0..entries.len() {
+        let number = number_of(others, moving) as usize;
+        if number <= place || number >= entries.len() {
+            entries[place] = moving;
+            return number == place;
+        }
+        let there = entries[number];
+        entries[number] = moving;
+        moving = there;
+    }
+    entries[place] = moving;
+    false
+}
+
 // Puts each fate at the place of its number. Answers whether all stand there: they do where their numbers are those of the places.
 fn put_in_place(entries: &mut [LogEntry], others: &[Fate]) -> bool
     ensures same { IsPermutation entries.old entries.new }
     ensures rising { OnTrue result (IsNonDecreasingBy (λ entry. (fate_in others.now entry).number) entries.new) }
 {
-    let count = entries.len();
-    let mut placed = 0;
-    // Each pass finds one more fate at its place, or moves one there.
-    for _pass in 0..count.saturating_mul(2) {
-        if placed == count {
-            return true;
-        }
-        let number = number_of(others, entries[placed]) as usize;
-        if number == placed {
-            placed += 1;
+    for place in 0..entries.len() {
+        let number = number_of(others, entries[place]) as usize;
+        if number == place {
             continue;
         }
-        if number < placed || number >= count {
+        if !fill_place(entries, others, place) {
             return false;
         }
-        entries.swap(placed, number);
     }
-    placed == count
+    true
 }
 
 // The legs of a packet once more.
