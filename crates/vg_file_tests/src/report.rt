@@ -249,6 +249,8 @@ end
     has_length(&rt, report.nodes.into_vec().len(), 3);
     has_length(&rt, report.errors.into_vec().len(), 2);
     has_length(&rt, report.packets.len(), 3);
+    same(&rt, report.packets.is_congested(0), false);
+    same(&rt, report.packets.is_congested(1), true);
     let mut traces = report.traces.into_vec();
     has_length(&rt, traces.len(), 2);
     let last = traces.pop().expect(&rt, "a trace");

@@ -1,6 +1,6 @@
 -- For `addresses`: what is known of prefixes.
 use Rattle.std.proofs.Common.{◌≡◌, ℕ, ◌-◌, ◌/◌, ◌≤◌, Bool, true, false, List, [], ◌∷◌, refl, sym, ap, ◌∙◌, inl, inr, arith}
-use Rattle.std.specs.Prelude.{◌^◌, ◌&&◌, ◌||◌, cond, nat_lt, filter}
+use Rattle.std.specs.Prelude.{◌^◌, ◌&&◌, ◌||◌, not, cond, nat_lt, filter, Some, None, is_some, if◌then◌else◌}
 use Rattle.std.specs.List.{list_any}
 use Rattle.std.proofs.Math.Nat.{div-div-eq-div-mul}
 use Rattle.std.proofs.lemmas.Bool.{cases_lt, lt-ltb, eqb-true}
@@ -8,7 +8,8 @@ use Rattle.std.proofs.lemmas.Map.Views.{any-filter_same}
 use Rattle.vg_model.proofs.PowerLemmas.{powers}
 use Rattle.vg_model.specs.declared.routes.Prefix.{Prefix}
 use Rattle.vg_model.specs.Route.{covers_of, ip4}
-use Rattle.vg_remarks.specs.Addresses.{is_multicast, is_led, has_group, is_special, may_be_special}
+use Rattle.vg_remarks.specs.declared.addresses.Class.TheVariants as classes
+use Rattle.vg_remarks.specs.Addresses.{class_of, is_multicast, is_directed, is_led, has_group, is_special, special_class, may_be_special}
 
 -- what two addresses have in common in their first bits they have in the first eight of them
 same_byte : (x y len : ℕ) → 8 ≤ len → len ≤ 32 → x / 2 ^ (32 - len) ≡ y / 2 ^ (32 - len) → x / 2 ^ 24 ≡ y / 2 ^ 24
@@ -48,3 +49,13 @@ any_of_filtered {X} p q (x ∷ xs) = first (q x) (any_of_filtered p q xs)
 -- a group has a route where one of the prefixes of multicast addresses alone covers it
 pub group_led : (led : List Prefix) (address : ℕ) → is_led (filter is_multicast led) address ≡ has_group led address
 group_led led address = any_of_filtered (λ prefix. covers_of ip4 prefix address) is_multicast led
+
+-- an address whose first byte is an ordinary one has a class where it is the last one of a network
+pub class_elsewhere : (led : List Prefix) (address : ℕ) → is_special (address / 2 ^ 24) ≡ false → is_some (class_of led address) ≡ is_directed led address
+class_elsewhere led address ordinary =
+    ap (λ b. is_some (if b then (if is_led led address && not (has_group led address) then Some (special_class address) else None) else if is_directed led address then Some classes.DirectedBroadcast else None)) ordinary
+    ∙ directed (is_directed led address)
+  where
+    directed : (b : Bool) → is_some (if b then Some classes.DirectedBroadcast else None) ≡ b
+    directed true = refl
+    directed false = refl

@@ -1,21 +1,46 @@
 -- For `packets`: what one packet more adds, and what is said of it.
 use Rattle.std.proofs.Common.{◌≡◌, ℕ, ◌+◌, Bool, true, false, List, ◌++◌, take, ap, ◌∙◌, refl, add-one}
-use Rattle.std.specs.Prelude.{Option, Some, None, count_by, option_map, slice_get, option_to_list, if◌then◌else◌}
+use Rattle.std.specs.Prelude.{Option, Some, None, count_by, is_some, option_map, slice_get, option_to_list, if◌then◌else◌}
 use Rattle.std.proofs.lemmas.List.Sums.{count_by_more_yes, count_by_more_no}
 use Rattle.std.proofs.lemmas.Option.{slice_get_within, get_or_from_slice_get}
 use Rattle.vg_model.specs.declared.routes.Prefix.{Prefix}
 use Rattle.vg_capture.specs.declared.captures.Captured.{Captured}
 use Rattle.vg_report.specs.declared.reports.PacketLine.{PacketLine}
+use Rattle.vg_remarks.specs.declared.addresses.Class.{Class}
 use Rattle.vg_remarks.specs.declared.packets.Unforwarded.{Unforwarded}
-use Rattle.vg_remarks.specs.Addresses.{destination}
+use Rattle.vg_remarks.specs.Addresses.{class_of, destination}
 use Rattle.vg_remarks.specs.Packets.{is_sent, said_of, told_below, told_of}
 
--- one element more is counted, or isn't
-pub counted : {X : Type 0} (p : X → Bool) (xs : List X) (i : ℕ) (x : X) → slice_get xs i ≡ Some x → p x ≡ true → count_by p (take (i + 1) xs) ≡ count_by p (take i xs) + 1
-counted p xs i x at is = count_by_more_yes p xs i x (slice_get_within xs i x at) (ap p (get_or_from_slice_get xs i x x at) ∙ is)
+-- an element of which something is known
+at_some : {X Y : Type 0} (f : X → Y) (o : Option X) (y : Y) → option_map f o ≡ Some y → (x : X) × (o ≡ Some x) × (f x ≡ y)
+at_some f None y e = let no : ⊥ = cc in absurd no
+at_some f (Some x) y e = let same : f x ≡ y = cc in (x, refl, same)
 
-pub not_counted : {X : Type 0} (p : X → Bool) (xs : List X) (i : ℕ) (x : X) → slice_get xs i ≡ Some x → p x ≡ false → count_by p (take (i + 1) xs) ≡ count_by p (take i xs)
-not_counted p xs i x at is = count_by_more_no p xs i x (slice_get_within xs i x at) (ap p (get_or_from_slice_get xs i x x at) ∙ is)
+-- one element more is counted, or isn't
+pub counted : {X : Type 0} (p : X → Bool) (xs : List X) (i : ℕ) → option_map p (slice_get xs i) ≡ Some true → count_by p (take (i + 1) xs) ≡ count_by p (take i xs) + 1
+counted p xs i is =
+    let found = at_some p (slice_get xs i) true is in
+    let x = found.0 in
+    count_by_more_yes p xs i x (slice_get_within xs i x found.1) (ap p (get_or_from_slice_get xs i x x found.1) ∙ found.2)
+
+pub not_counted : {X : Type 0} (p : X → Bool) (xs : List X) (i : ℕ) → option_map p (slice_get xs i) ≡ Some false → count_by p (take (i + 1) xs) ≡ count_by p (take i xs)
+not_counted p xs i is =
+    let found = at_some p (slice_get xs i) false is in
+    let x = found.0 in
+    count_by_more_no p xs i x (slice_get_within xs i x found.1) (ap p (get_or_from_slice_get xs i x x found.1) ∙ found.2)
+
+-- nothing is there where it isn't said that something is
+pub none_of : {X : Type 0} (o : Option X) → is_some o ≡ false → o ≡ None
+none_of None is = refl
+none_of (Some x) is = let no : ⊥ = cc in absurd no
+
+-- what is said of a destination, where it has a class
+pub said_where : (led : List Prefix) (number address : ℕ) → is_some (said_of led number (Some address)) ≡ is_some (class_of led address)
+said_where led number address = mapped (class_of led address)
+  where
+    mapped : (o : Option Class) → is_some (option_map (λ (class : Class). let one : Unforwarded = record { number = number; address = address; class = class } in one) o) ≡ is_some o
+    mapped None = refl
+    mapped (Some class) = refl
 
 -- what is said of one packet more
 pub told_more : (led : List Prefix) (packets : List Captured) (lines : List PacketLine) (n : ℕ)

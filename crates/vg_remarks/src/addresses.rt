@@ -1,5 +1,5 @@
 //! IPv4 addresses that a router does not forward to (RFC 1812, RFC 2644).
-ghost use Rattle.std.specs.Prelude.{◌≡◌, ◌==◌, ◌&&◌, ◌||◌, ◌/◌, ◌^◌, ℕ, true, List, IfOk, OnOk, filter};
+ghost use Rattle.std.specs.Prelude.{◌≡◌, ◌==◌, ◌&&◌, ◌||◌, ◌/◌, ◌^◌, ℕ, true, List, IfOk, OnOk, filter, is_some};
 ghost use Rattle.vg_model.specs.declared.routes.Prefix.{Prefix as PrefixValue};
 ghost use Rattle.vg_remarks.specs.Addresses.{class_of, destination as destination_of, has_group, is_directed as directed, is_led, is_multicast as multicast, is_network as network, is_special as special, last_of, may_be_special as may_cover_special, special_class as class_everywhere, IsKnown, IsSetOf};
 ghost use Rattle.vg_remarks.specs.Lasts.{has};
@@ -152,7 +152,7 @@ impl Known {
     }
 
     /// Of which class an address is that a router does not forward to, though routes lead it to neighbors.
-    #[inline]
+    #[inline(never)]
     pub fn class(&self, address: u32) -> Option<Class>
         ensures { (led : List PrefixValue) → IsKnown led self.now → result ≡ class_of led address }
     {
@@ -168,6 +168,17 @@ impl Known {
         } else {
             None
         }
+    }
+
+    // Whether an address is of such a class. Of most its first byte and one bit say that it isn't.
+    #[inline]
+    pub(crate) fn has_class(&self, address: u32) -> bool
+        ensures { (led : List PrefixValue) → IsKnown led self.now → result ≡ is_some (class_of led address) }
+    {
+        if is_special(address >> 24) {
+            return self.class(address).is_some();
+        }
+        self.is_directed(address)
     }
 }
 

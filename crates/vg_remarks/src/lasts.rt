@@ -87,6 +87,14 @@ impl LastAddresses {
     pub fn contains(&self, address: u32) -> bool
         ensures { result ≡ has self.now address }
     {
-        is_marked(self.marks.as_slice(), address) && self.addresses.contains(&address)
+        is_marked(self.marks.as_slice(), address) && self.is_found(address)
+    }
+
+    // The same by a search alone.
+    #[inline(never)]
+    fn is_found(&self, address: u32) -> bool
+        ensures { result ≡ has self.now address }
+    {
+        self.addresses.contains(&address)
     }
 }

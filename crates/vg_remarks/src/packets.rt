@@ -1,10 +1,10 @@
 //! What became of single packets that need not have been so.
-ghost use Rattle.std.specs.Prelude.{◌≡◌, ◌<◌, List, length, slice_get};
+ghost use Rattle.std.specs.Prelude.{◌≡◌, ◌<◌, ℕ, List, is_some, length, slice_get};
 ghost use Rattle.vg_model.specs.declared.routes.Prefix.{Prefix as PrefixValue};
 ghost use Rattle.vg_report.specs.Seen.{line_seen};
-ghost use Rattle.vg_remarks.specs.Addresses.{IsKnown};
+ghost use Rattle.vg_remarks.specs.Addresses.{destination as destination_in, IsKnown};
 ghost use Rattle.vg_remarks.specs.Found.{IsFound};
-ghost use Rattle.vg_remarks.specs.Packets.{congested as congested_in, is_congested, is_sent as is_sent_in, told_below, told_of, said_of};
+ghost use Rattle.vg_remarks.specs.Packets.{congested as congested_in, is_sent as is_sent_in, told_below, told_of, said_of};
 
 use crate::addresses::{Class, Known, destination};
 use crate::found::Found;
@@ -31,13 +31,6 @@ pub struct Ends {
     pub unforwarded: Found<Unforwarded>,
 }
 
-// Whether a full queue refused a packet.
-fn is_refused(line: LineRef<'_>) -> bool
-    ensures { result ≡ is_congested (line_seen line.entry) }
-{
-    line.congested.is_some()
-}
-
 // Whether a packet was transmitted.
 fn is_sent(line: LineRef<'_>) -> bool
     ensures { result ≡ is_sent_in (line_seen line.entry).end }
@@ -49,7 +42,6 @@ fn is_sent(line: LineRef<'_>) -> bool
 }
 
 // What is said of a packet to this address.
-#[inline]
 fn said(known: &Known, number: u32, address: Option<u32>) -> Option<Unforwarded>
     ensures { (led : List PrefixValue) → IsKnown led known.now → result ≡ said_of led number address }
 {
@@ -67,7 +59,7 @@ fn said(known: &Known, number: u32, address: Option<u32>) -> Option<Unforwarded>
 }
 
 // What is said of the packet of this number. What became of it is looked up only where something is said of packets to its destination.
-#[inline]
+#[inline(never)]
 fn told(known: &Known, packets: &Packets, lines: &PacketLines, number: u32) -> Option<Unforwarded>
     requires packet { number < length packets.now }
     requires line { number < length lines.now }
@@ -81,32 +73,15 @@ fn told(known: &Known, packets: &Packets, lines: &PacketLines, number: u32) -> O
     }
 }
 
-// How many packets a full queue refused.
-fn count_refused(lines: &PacketLines) -> usize
-    ensures { result ≡ congested_in lines.now }
+// Whether something is said of a packet with this frame, where it was transmitted.
+#[inline]
+fn is_remarkable(known: &Known, frame: &[u8]) -> bool
+    ensures { (led : List PrefixValue) → IsKnown led known.now → (number : ℕ) → result ≡ is_some (said_of led number (destination_in frame.now)) }
 {
-    let mut count = 0;
-    for number in 0..lines.len() {
-        if is_refused(lines.get(number)) {
-            count += 1;
-        }
+    match destination(frame) {
+        None => false,
+        Some(address) => known.has_class(address),
     }
-    count
-}
-
-// The packets that were transmitted though a router does not forward to their destinations.
-fn find_unforwarded(known: &Known, packets: &Packets, lines: &PacketLines) -> Found<Unforwarded>
-    requires { length lines.now ≡ length packets.now }
-    ensures { (led : List PrefixValue) → IsKnown led known.now → IsFound (told_below led packets.now lines.now (length lines.now)) result }
-{
-    let mut found = Found::none();
-    for number in 0..packets.len() {
-        match told(known, packets, lines, number as u32) {
-            None => {}
-            Some(one) => found = found.with(Some(one)),
-        }
-    }
-    found
 }
 
 /// What became of the packets of a run that need not have been so: how many a full queue dropped, and those that were transmitted though a
@@ -116,8 +91,18 @@ pub fn ends_of(known: &Known, packets: &Packets, lines: &PacketLines) -> Ends
     ensures congested { result.congested ≡ congested_in lines.now }
     ensures unforwarded { (led : List PrefixValue) → IsKnown led known.now → IsFound (told_below led packets.now lines.now (length lines.now)) result.unforwarded }
 {
+    let mut congested = 0;
+    let mut unforwarded = Found::none();
+    for number in 0..packets.len() {
+        if lines.is_congested(number) {
+            congested += 1;
+        }
+        if is_remarkable(known, packets.bytes(number)) {
+            unforwarded = unforwarded.with(told(known, packets, lines, number as u32));
+        }
+    }
     Ends {
-        congested: count_refused(lines),
-        unforwarded: find_unforwarded(known, packets, lines),
+        congested,
+        unforwarded,
     }
 }

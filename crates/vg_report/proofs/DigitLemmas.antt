@@ -1,3 +1,4 @@
+-- For the clause of `put_short_front`:
 -- The digits of a number below 100,000, two at a time.
 use Rattle.std.proofs.Common.{◌≡◌, ℕ, zero, suc, ◌+◌, ◌-◌, ◌*◌, ◌/◌, ◌%◌, ◌<◌, ◌≤◌, Bool, true, ◌&&◌, eqb, List, [], ◌∷◌, ◌++◌, get_or, sym, ap, ◌∙◌, inl, inr, arith, eq-zero-or-pos, eqb→eq, T}
 use Rattle.std.proofs.lemmas.Fmt.{decimal_digit}

@@ -1,3 +1,4 @@
+-- For the clauses of `Parts::{name, declared_name, running_number}`, and of `trace` of `lines`:
 -- Forms, by what they read.
 use Rattle.std.proofs.Common.{◌≡◌, ℕ, ◌≤◌, Bool, true, false, cond, eqb, List, [], ◌∷◌, ◌++◌, length, refl, sym, ap, ◌∙◌, le-leb}
 use Rattle.std.specs.Prelude.{Option, Some, None, is_some, ok_or, Ok, Err}

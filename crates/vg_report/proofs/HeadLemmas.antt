@@ -1,3 +1,4 @@
+-- For the clause of `read_report`, and for `read_is_lawful`:
 -- The first five lines.
 use Rattle.std.proofs.Common.{◌≡◌, ◌≢◌, ℕ, ◌≤◌, List, [], ◌∷◌, ◌++◌, map, refl, sym, ap, subst, ◌∙◌, arith}
 use Rattle.std.proofs.lemmas.List.Splits.{join_with_byte-slice_split}

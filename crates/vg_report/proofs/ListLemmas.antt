@@ -1,3 +1,4 @@
+-- For the clauses of `Lines::further`, `LineKind::of` and `Parts::declared_name`, and for `read_is_lawful` and `written_is_read_back`:
 -- Lists that grow at their end, and names in them.
 use Rattle.std.proofs.Common.{◌≡◌, ℕ, ◌+◌, ◌<◌, Bool, true, false, cond, ltb, ltb-true, List, [], ◌∷◌, ◌++◌, length, get_or, sym, ap, refl, ◌∙◌}
 use Rattle.std.specs.Prelude.{Some, None, map, bytes_eq}

@@ -1,3 +1,4 @@
+-- For `written_is_read_back` and `texts_differ`:
 -- The lines of a lawful report, read one by one.
 use Rattle.std.proofs.Common.{◌≡◌, ℕ, suc, ◌^◌, ◌<◌, ◌≤◌, true, ◌&&◌, eqb, ltb, List, [], ◌∷◌, ◌++◌, length, map, refl, sym, ap, subst, ◌∙◌, arith, append-nil, append_assoc, length-append, lt-ltb}
 use Rattle.std.proofs.lemmas.Bool.{and_from, eq-eqb}

@@ -1,3 +1,4 @@
+-- For `written_is_read_back` and `texts_differ`, and for `verdict` of vg_check:
 -- The text of a lawful report, read.
 use Rattle.std.proofs.Common.{◌≡◌, ℕ, suc, ◌+◌, ◌^◌, ◌<◌, ◌≤◌, false, cond, eqb, ltb, List, [], ◌∷◌, ◌++◌, length, map, refl, ap, ◌∙◌, arith, lt-ltb}
 use Rattle.std.proofs.lemmas.Bool.{and_from, eq-eqb}

@@ -1,3 +1,4 @@
+-- For `read_is_lawful`, and for `read` of vg_check and `report_of` of vg_why:
 -- A report that is read: it is lawful, and its text is the text that was read.
 use Rattle.std.proofs.Common.{◌≡◌, ℕ, suc, ◌<◌, Bool, true, false, cond, eqb, List, [], ◌∷◌, ◌++◌, length, map, refl, sym, ap, subst, ◌∙◌, arith, eqb-true, append-nil, append_assoc}
 use Rattle.std.proofs.lemmas.List.Splits.{join_with_byte-slice_split}

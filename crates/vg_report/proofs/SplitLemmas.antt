@@ -1,3 +1,4 @@
+-- For the clauses of `cut_at_first` and `cut_at_near`, and of `Parts::{is_empty, next}`:
 -- Texts that are cut at the first byte of a kind.
 use Rattle.std.proofs.Common.{◌≡◌, ◌==◌, ℕ, suc, ◌+◌, ◌-◌, ◌<◌, ◌≤◌, Bool, true, false, List, [], ◌∷◌, length, take, drop, Bor, not, refl, sym, subst, ap, ◌∙◌, arith, eq-eqb, ne_eqb}
 use Rattle.std.specs.Prelude.{Option, Some, None, is_some, get_or}

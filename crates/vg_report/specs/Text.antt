@@ -74,6 +74,10 @@ abbrev pub end_words : PacketEnd → Line
 end_words (ends.Tx interface) = codes "tx" ∷ interface ∷ []
 end_words (ends.Dropped node error) = codes "drop" ∷ node ∷ error_word error ∷ []
 
+-- the end of the line of a packet that was transmitted on this interface, from the space in front of it on
+abbrev pub sent_end : List ℕ → List ℕ
+sent_end interface = further (end_words (ends.Tx interface)) ++ 10 ∷ []
+
 -- `packet I LEGS END`
 abbrev pub packet_line : ℕ → PacketLine → Line
 packet_line i p = codes "packet" ∷ decimal i ∷ legs_word p.legs ∷ (congested_words p.congested ++ end_words p.end)

@@ -1,7 +1,7 @@
 //! The report of a run as text: the pool's length at the end, the counts of interfaces, nodes and errors,
 //! each packet's fate, and the traces. `specs/Text` says which text, `specs/Lawful` which reports may be.
 //!
-//! In which order to read: `reports` with `lists`, `writing`; then `kinds`, `words` with `parts`, `lines`, `reading` with `errors`; then
+//! In which order to read: `reports` with `lists`, `pieces`, `writing`; then `kinds`, `words` with `parts`, `lines`, `reading` with `errors`; then
 //! `laws`.
 #![tactic(auto)]
 
@@ -11,6 +11,7 @@ pub mod laws;
 mod lines;
 pub mod lists;
 mod parts;
+mod pieces;
 mod reading;
 pub mod reports;
 mod words;

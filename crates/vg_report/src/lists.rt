@@ -1,5 +1,5 @@
 //! The lists of a report. Each is made of a vector, and all but the packets give it back; neither copies nor takes memory.
-ghost use Rattle.std.specs.Prelude.{◌≡◌, ◌<◌, ◌++◌, [], ◌∷◌, OnOk, Some, length, slice_get};
+ghost use Rattle.std.specs.Prelude.{◌≡◌, ◌<◌, ◌++◌, [], ◌∷◌, OnOk, Some, is_some, length, option_map, slice_get, take};
 ghost use Rattle.vg_fates.specs.Seen.{fate_seen};
 ghost use Rattle.vg_report.specs.Named.{lines_of, line_by, AreNamed, IsNamed, end_by};
 ghost use Rattle.vg_report.specs.Seen.{line_seen, end_seen};
@@ -44,6 +44,14 @@ pub struct PacketLines {
     interfaces: Vec<Name>,
     nodes: Vec<Name>,
     added: Vec<PacketLine>,
+}
+
+/// Fates, and the names of interfaces and of nodes by which their ends are read.
+#[derive(Clone, Copy)]
+pub(crate) struct NamedFates<'a> {
+    pub fates: &'a FateList,
+    pub interfaces: &'a [Name],
+    pub nodes: &'a [Name],
 }
 
 impl Model for PacketLines {
@@ -183,6 +191,18 @@ impl PacketLines {
         self.fates.len() + self.added.len()
     }
 
+    /// The fates as which the first packets are kept, with the names of their ends.
+    pub(crate) fn named_fates(&self) -> NamedFates<'_>
+        ensures first { take (length result.fates.now) self.now ≡ lines_of result.interfaces.now result.nodes.now result.fates.now }
+        ensures named { AreNamed result.interfaces.now result.nodes.now result.fates.now }
+    {
+        NamedFates {
+            fates: &self.fates,
+            interfaces: self.interfaces.as_slice(),
+            nodes: self.nodes.as_slice(),
+        }
+    }
+
     /// What became of a packet.
     #[inline]
     pub fn get(&self, number: usize) -> LineRef<'_>
@@ -205,6 +225,19 @@ impl PacketLines {
         }
     }
 
+    /// Whether a full queue refused a packet.
+    #[inline]
+    pub fn is_congested(&self, number: usize) -> bool
+        requires { number < length self.now }
+        ensures { option_map (λ line. is_some line.congested) (slice_get self.now number) ≡ Some result }
+    {
+        let fates = self.fates.len();
+        if number < fates {
+            return is_refused(self.fates.view(number));
+        }
+        self.added[number - fates].congested.is_some()
+    }
+
     /// Adds a packet behind the others.
     ///
     /// # Errors
@@ -215,6 +248,17 @@ impl PacketLines {
     {
         self.added.push(packet)?;
         Ok(())
+    }
+}
+
+// Whether a full queue refused a packet with this fate.
+#[inline]
+fn is_refused(fate: FateRef<'_>) -> bool
+    ensures { result ≡ is_some (fate_seen fate.entry).congested }
+{
+    match fate {
+        FateRef::Plain { .. } => false,
+        FateRef::Other(fate) => fate.congested.is_some(),
     }
 }
 
@@ -238,9 +282,9 @@ fn line_of<'a>(interfaces: &'a [Name], nodes: &'a [Name], fate: FateRef<'a>) -> 
     }
 }
 
-// An end by the names of interfaces and nodes.
+/// An end by the names of interfaces and nodes.
 #[inline]
-fn named<'a>(interfaces: &'a [Name], nodes: &'a [Name], end: End) -> EndRef<'a>
+pub(crate) fn named<'a>(interfaces: &'a [Name], nodes: &'a [Name], end: End) -> EndRef<'a>
     requires { IsNamed interfaces.now nodes.now end }
     ensures { end_seen result ≡ end_by interfaces.now nodes.now end }
 {

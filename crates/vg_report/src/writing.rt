@@ -1,14 +1,18 @@
 //! Writing the text of a report. Each function appends to one growing buffer; where memory runs out it stops.
 ghost use Rattle.std.specs.Prelude.{◌≡◌, ◌++◌, [], ◌∷◌, ◌<◌, codes, decimal, flat_map, map, OnOk, IfOk};
-ghost use Rattle.vg_report.specs.Text.{line_text, numbered, count_line, head_lines, interface_line, node_line, error_line, leg_text, legs_word, further, congested_words, end_words, packet_line, trace_line, text};
+ghost use Rattle.vg_fates.specs.Seen.{fate_seen};
+ghost use Rattle.vg_report.specs.Text.{line_text, numbered, count_line, head_lines, interface_line, node_line, error_line, leg_text, legs_word, further, congested_words, end_words, sent_end as sent_end_of, packet_line, trace_line, text};
 ghost use Rattle.vg_report.specs.Lawful.{IsLawful};
-ghost use Rattle.vg_report.specs.Seen.{line_seen, legs_seen, end_seen};
+ghost use Rattle.vg_report.specs.Named.{lines_of, line_by, end_by, AreNamed, IsNamed};
+ghost use Rattle.vg_report.specs.Seen.{line_seen, end_seen};
 
-use crate::lists::{Names, PacketLines};
-use crate::reports::{EndRef, LegsRef, LineRef, Report};
+use crate::lists::{NamedFates, Names, PacketLines, named};
+use crate::pieces::Piece;
+use crate::reports::{EndRef, LineRef, Report};
 use itoa::Buffer;
 use std::alloc::{AllocError, Global};
-use vg_model::{Bytes, DropError, Leg, Memory, Name};
+use vg_fates::FateRef;
+use vg_model::{Bytes, DropError, End, Fate, Leg, Memory, Name};
 
 // How many bytes the line of a packet mostly has at most, and how many the lines that aren't of packets. A longer text makes the
 // buffer grow.
@@ -253,24 +257,91 @@ fn put_long_front(out: &mut Vec<u8>, number: usize, legs: &[Leg]) -> Result<(), 
     put_legs(out, legs)
 }
 
-// Appends the front of a packet's line, up to its legs.
-#[inline]
-fn put_front(out: &mut Vec<u8>, number: usize, legs: LegsRef<'_>) -> Result<(), AllocError>
-    ensures { OnOk result (out.new.items ≡ out.old.items ++ (codes "packet " ++ (decimal number ++ 32 ∷ legs_word (legs_seen legs.entry)))) }
-{
-    match legs {
-        LegsRef::One(leg) => put_front_of_one(out, number, leg),
-        LegsRef::Kept(legs) => put_long_front(out, number, legs.as_slice()),
-    }
-}
-
-#[inline]
 fn put_packet_line(out: &mut Vec<u8>, number: usize, packet: &LineRef<'_>) -> Result<(), AllocError>
     ensures { OnOk result (out.new.items ≡ out.old.items ++ line_text (packet_line number (line_seen packet.now))) }
 {
-    put_front(out, number, packet.legs)?;
+    put_long_front(out, number, packet.legs.as_slice())?;
     put_congested(out, packet.congested)?;
     put_end(out, &packet.end)
+}
+
+// The end of the line of a packet that was transmitted on this interface, from the space behind its legs on.
+fn sent_end(alloc: Global, interface: &Name) -> Result<Piece, AllocError>
+    ensures { IfOk result (λ end. end ≡ sent_end_of interface.now) }
+{
+    let name = interface.bytes();
+    let mut end = Vec::new(alloc);
+    put(&mut end, b" tx ")?;
+    put(&mut end, name)?;
+    end_line(&mut end)?;
+    Ok(Piece::of(end.as_slice()))
+}
+
+// The same for each of these interfaces.
+fn sent_ends(alloc: Global, interfaces: &[Name]) -> Result<Vec<Piece>, AllocError>
+    ensures { IfOk result (λ ends. ends.items ≡ map sent_end_of interfaces.now) }
+{
+    let mut ends = Vec::new(alloc);
+    for interface in interfaces {
+        ends.push(sent_end(alloc, interface)?)?;
+    }
+    Ok(ends)
+}
+
+// Appends how a packet with a fate ended, and ends the line. For packets that were transmitted the text stands ready, by interface.
+#[inline]
+fn put_fate_end(
+    out: &mut Vec<u8>,
+    end: End,
+    names: &NamedFates<'_>,
+    sent: &[Piece],
+) -> Result<(), AllocError>
+    requires named { IsNamed names.now.interfaces.now names.now.nodes.now end }
+    requires ready { sent.now ≡ map sent_end_of names.now.interfaces.now }
+    ensures { OnOk result (out.new.items ≡ out.old.items ++ (further (end_words (end_by names.now.interfaces.now names.now.nodes.now end)) ++ 10 ∷ [])) }
+{
+    match end {
+        End::Tx { interface } => sent[usize::from(interface)].put(out),
+        End::Dropped { .. } => put_end(out, &named(names.interfaces, names.nodes, end)),
+    }
+}
+
+// Appends the line of a packet with several legs, or one that a queue refused.
+#[inline(never)]
+fn put_other_line(
+    out: &mut Vec<u8>,
+    number: usize,
+    fate: &Fate,
+    names: &NamedFates<'_>,
+) -> Result<(), AllocError>
+    requires { IsNamed names.now.interfaces.now names.now.nodes.now fate.now.end }
+    ensures { OnOk result (out.new.items ≡ out.old.items ++ line_text (packet_line number (line_by names.now.interfaces.now names.now.nodes.now fate.now))) }
+{
+    put_long_front(out, number, fate.legs.as_slice())?;
+    put_congested(out, fate.congested)?;
+    put_end(out, &named(names.interfaces, names.nodes, fate.end))
+}
+
+// Appends the line of a packet with this fate.
+#[inline]
+fn put_fate_line(
+    out: &mut Vec<u8>,
+    number: usize,
+    fate: FateRef<'_>,
+    names: &NamedFates<'_>,
+    sent: &[Piece],
+) -> Result<(), AllocError>
+    requires named { IsNamed names.now.interfaces.now names.now.nodes.now (fate_seen fate).end }
+    requires ready { sent.now ≡ map sent_end_of names.now.interfaces.now }
+    ensures { OnOk result (out.new.items ≡ out.old.items ++ line_text (packet_line number (line_by names.now.interfaces.now names.now.nodes.now (fate_seen fate.entry)))) }
+{
+    match fate {
+        FateRef::Plain { leg, end, .. } => {
+            put_front_of_one(out, number, leg)?;
+            put_fate_end(out, end, names, sent)
+        }
+        FateRef::Other(fate) => put_other_line(out, number, fate, names),
+    }
 }
 
 // Appends the names as further words.
@@ -319,10 +390,31 @@ fn put_error_lines(out: &mut Vec<u8>, errors: &[(Name, DropError, u64)]) -> Resu
     Ok(())
 }
 
+// Appends the lines of packets with these fates.
+fn put_fate_lines(out: &mut Vec<u8>, names: &NamedFates<'_>) -> Result<(), AllocError>
+    requires { AreNamed names.now.interfaces.now names.now.nodes.now names.now.fates.now }
+    ensures { OnOk result (out.new.items ≡ out.old.items
+        ++ flat_map line_text (numbered packet_line 0 (lines_of names.now.interfaces.now names.now.nodes.now names.now.fates.now))) }
+{
+    let sent = sent_ends(*out.allocator(), names.interfaces)?;
+    for number in 0..names.fates.len() {
+        put_fate_line(
+            out,
+            number,
+            names.fates.view(number),
+            names,
+            sent.as_slice(),
+        )?;
+    }
+    Ok(())
+}
+
 fn put_packet_lines(out: &mut Vec<u8>, packets: &PacketLines) -> Result<(), AllocError>
     ensures { OnOk result (out.new.items ≡ out.old.items ++ flat_map line_text (numbered packet_line 0 packets.now)) }
 {
-    for number in 0..packets.len() {
+    let names = packets.named_fates();
+    put_fate_lines(out, &names)?;
+    for number in names.fates.len()..packets.len() {
         put_packet_line(out, number, &packets.get(number))?;
     }
     Ok(())

@@ -9,7 +9,8 @@ pub returns : goal.returns
 returns c =
     on_ok_weaker c.put_end.result (λ e. cc (
       e,
-      c.in_ok-put_front.ensures,
+      c.in_ok-put_long_front.ensures,
+      c.as_slice.ensures.legs,
       c.in_ok-put_congested.ensures,
       packet_steps c.args.out.now.items (decimal c.args.number) (legs_word (legs_seen c.args.packet.now.legs)) (congested_words c.args.packet.now.congested) (end_words (end_seen c.args.packet.now.end)),
     ))

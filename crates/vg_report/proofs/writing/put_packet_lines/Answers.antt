@@ -1,9 +1,16 @@
-use Rattle.std.proofs.Common.{◌<◌, length, sym, arith}
+-- For `put_packet_lines`: the lines of fates are the first ones, and one more line stands behind those so far.
+use Rattle.std.proofs.Common.{◌++◌, ◌<◌, ◌∙◌, ap, length, sym, take, flat_map, arith}
 use Rattle.std.proofs.lemmas.Option.{get_or_from_slice_get}
-use Rattle.vg_report.specs.Text.{packet_line}
+use Rattle.vg_report.specs.Text.{line_text, numbered, packet_line}
 use Rattle.vg_report.specs.Seen.{line_seen}
 use Rattle.vg_report.proofs.LineLemmas.{one_more_line}
 use Rattle.vg_report.proofs.writing.put_packet_lines.Goals as goal
+
+pub loop-number-init : goal.loop-number-init
+loop-number-init c =
+    c.in_ok-put_fate_lines.ensures
+    ∙ ap (λ lines. c.args.out.now.items ++ flat_map line_text (numbered packet_line 0 lines))
+    (sym (ap (λ n. take n c.args.packets.now) c.len-number.ensures.count ∙ c.named_fates-names.ensures.first))
 
 pub loop-number-preserved : goal.loop-number-preserved
 loop-number-preserved c =
