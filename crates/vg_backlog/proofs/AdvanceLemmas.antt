@@ -1,4 +1,4 @@
--- What a tick keeps.
+-- For the clause `advances` of `Backlog::advance`, and for the clauses of `tick` of a backlog as a handoff: what a tick keeps.
 use Rattle.std.proofs.Common.{◌≡◌, ℕ, ◌≤◌, ◌⊎◌, ⊎_elim, inl, inr, List, [], ◌∷◌, ◌++◌, length, refl, sym, ap, ◌∙◌, subst, arith, append_assoc, length-append}
 use Rattle.std.specs.Prelude.{Option, None, Some, option_to_list, MatchOption}
 use Rattle.std.proofs.lemmas.List.Sums.{sum_by-cons}

@@ -1,4 +1,4 @@
--- Frames in two queues.
+-- For the clauses of `Waiting::{push, packets, len}`: frames in two queues.
 use Rattle.std.proofs.Common.{◌≡◌, ℕ, ◌≤◌, List, [], ◌∷◌, ◌++◌, length, take, drop, refl, sym, ap, subst, ◌∙◌, arith}
 use Rattle.std.proofs.lemmas.List.{take_all, take-append-le, drop-append-le, length-take-le, length-drop, length-append}
 use Rattle.std.proofs.lemmas.List.Sums.{sum_by-cons}

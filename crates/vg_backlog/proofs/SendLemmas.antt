@@ -1,4 +1,4 @@
--- A backlog may go to another thread.
+-- For `run_workers` of vg_top, where `run_linked` requires it: a backlog may go to another thread.
 use denote.Param.Send.{IsSend, AllSend, view_send, recorded_send, struct_send, sendable}
 use denote.Struct.Declared as Declared
 use Rattle.std.proofs.Crossing

@@ -1,4 +1,4 @@
--- The workers of a barrier that has just been made, and the parcels that main has renewed.
+-- For the tests of barriers in vg_queue_tests and vg_trials: the workers of a barrier that has just been made, and the parcels that main has renewed.
 use Rattle.std.proofs.Common.{◌≡◌, ℕ, zero, suc, ◌+◌, List, [], ◌∷◌, ◌++◌, length, set, slice_get, Some, inr, sym, refl, ap, ◌∙◌, subst, arith}
 use mathlib.Core.Option.{some, some-injective, some-ne-none}
 use lib.ListN.{get_elem?}

@@ -1,4 +1,4 @@
--- The rule as a barrier is made, with its workers one by one, and as main is idle.
+-- For `Barrier::{lay, make_worker, end}`: the rule as a barrier is made, with its workers one by one, and as main is idle.
 use Rattle.std.proofs.Common.{◌≡◌, ℕ, ◌+◌, ◌*◌, ◌<◌, ◌≤◌, true, false, List, [], ◌∷◌, ◌++◌, map, length, get_or, set, sym, refl, ap, ◌∙◌, subst, ⊎_elim, arith, Option, length-append}
 use mathlib.Core.Option.{none, some, some-injective, some-ne-none}
 use mathlib.Core.Option as maybe

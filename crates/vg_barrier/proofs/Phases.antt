@@ -1,4 +1,5 @@
--- Lists of workers, and which phases of main and of a worker go together.
+-- For the steps of main and of workers (MainMachine and WorkerMachine), and for `Barrier::{make_worker, end}`: lists of workers, and which phases of main
+-- and of a worker go together.
 use Rattle.std.proofs.Common.{◌≡◌, ◌≢◌, ℕ, zero, suc, ◌+◌, ◌*◌, ◌%◌, ◌≤◌, Bool, true, false, eqb, cond, List, [], ◌∷◌, ◌++◌, map, length, set, sym, refl, ap, ◌∙◌, arith}
 use Rattle.std.proofs.lemmas.Bool.{eqb-true, eqb-false}
 use mathlib.Core.Option.{some, some-injective, some-ne-none}

@@ -1,4 +1,5 @@
--- What the rule says of the seat that makes a step.
+-- For the steps of main and of workers (MainMachine and WorkerMachine), and for `Barrier::{make_worker, end}`: what the rule says of the seat that makes
+-- a step.
 use Rattle.std.proofs.Common.{◌≡◌, ◌≢◌, ℕ, zero, suc, ◌≤◌, List, length, get_or, sym, refl, ap, ◌∙◌, arith, Option}
 use mathlib.Core.Logic.{dite}
 use mathlib.Core.Option.{some, some-injective}

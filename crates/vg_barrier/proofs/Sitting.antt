@@ -1,4 +1,5 @@
--- What a seat's ghost fields say, from its view after a step.
+-- For the clauses of `Running::check`, `ParkedSeat::poll`, `MainSeat::ask`, `Asked::poll`, `take_all`, `Held::release`, `return_all` and `Clearing::poll`: what
+-- a seat's ghost fields say, from its view after a step.
 use Rattle.std.proofs.Common.{◌≡◌, ℕ, ◌+◌, ◌%◌, Bool, true, false, cond, eqb, eq-eqb, ne_eqb, List, ◌∙◌, sym, ap, subst, length, Option}
 use Rattle.vg_steps.specs.Seats.{me_of}
 use Rattle.vg_steps.specs.declared.seats.Seat.{Seat}

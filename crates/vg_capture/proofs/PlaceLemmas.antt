@@ -1,4 +1,5 @@
--- The places of captured packets in bytes, one more at a time.
+-- For the clauses of `read_places`, `add`, `Packets::{stretch, bytes, marks}` and `Stretch::bytes`: the places of captured packets in bytes, one more at a
+-- time.
 use Rattle.std.proofs.Common.{◌≡◌, ℕ, ◌+◌, ◌-◌, ◌<◌, ◌≤◌, ◌^◌, Bool, false, List, [], ◌∷◌, ◌++◌, length, take, drop, get_or, refl, sym, ap, subst, ◌∙◌, arith, length-drop, append_assoc}
 use Rattle.std.specs.Prelude.{All, Some, option_map, slice_get}
 use Rattle.std.proofs.lemmas.Option.{slice_get_read}

@@ -1,4 +1,4 @@
--- Reading a savefile that was written.
+-- For `written_is_read_back`: reading a savefile that was written.
 use Rattle.std.proofs.Common.{◌≡◌, ℕ, zero, suc, ◌+◌, ◌-◌, ◌<◌, ◌≤◌, ◌^◌, Bool, true, false, List, [], ◌∷◌, ◌++◌, length, take, drop, refl, sym, ap, subst, ◌∙◌, arith, length-append}
 use Rattle.std.specs.Prelude.{Option, Some, None, option_map, unwrap_or, Ok, nat_lt, All, flat_map, slice_get, slice_index, map}
 use Rattle.std.specs.List.{filter_map, cons_option}

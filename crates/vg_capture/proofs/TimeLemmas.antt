@@ -1,4 +1,4 @@
--- Capture time.
+-- For the clause of `Capture::time`, and for `Plan::limit` and `limits_are_fronts` of vg_plan: capture time.
 use Rattle.std.proofs.Common.{◌≡◌, ℕ, zero, suc, ◌-◌, ◌≤◌, Some, sym, ap, ◌∙◌, arith}
 use Rattle.vg_capture.specs.declared.captures.Capture.{Capture}
 use Rattle.std.specs.Prelude.{slice_get, option_map, unwrap_or, max}

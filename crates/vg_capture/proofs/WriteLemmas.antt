@@ -1,4 +1,4 @@
--- Appending a savefile's parts one after the other.
+-- For the clauses of `put_header`, `put_head` and `Savefile::put`, and of `put_record` of vg_savefile: appending a savefile's parts one after the other.
 use Rattle.std.proofs.Common.{◌≡◌, ℕ, ◌+◌, ◌<◌, List, [], ◌∷◌, ◌++◌, length, take, get_or, ap, sym, ◌∙◌, append-nil, append_assoc}
 use Rattle.std.specs.Prelude.{Some, None, slice_get, flat_map, option_map, unwrap_or}
 use Rattle.std.proofs.lemmas.List.{take_more, map-append}

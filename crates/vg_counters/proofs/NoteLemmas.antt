@@ -1,4 +1,4 @@
--- Notes of packets, leg by leg.
+-- For the clauses of `Trace::note`, `append_leg`, `merged_nodes` and `merge`: notes of packets, leg by leg.
 use Rattle.std.proofs.Common.{◌≡◌, ℕ, zero, suc, ◌+◌, ◌<◌, ◌≤◌, true, cond, ◌&&◌, List, [], ◌∷◌, ◌++◌, length, get_or, take, map, refl, sym, ap, subst, ◌∙◌, inl, inr, arith}
 use Rattle.std.specs.Prelude.{All, flat_map, nat_lt}
 use Rattle.std.proofs.Math.ListN.{set}

@@ -1,4 +1,4 @@
--- Counts that are added place by place.
+-- For the clauses of `add_counts` and `add_rows`: counts that are added place by place.
 use Rattle.std.proofs.Common.{◌≡◌, ℕ, ◌+◌, ◌<◌, ◌≤◌, List, [], length, get_or, refl, sym, ap, ◌∙◌, arith, inl, inr}
 use Rattle.std.specs.Prelude.{All}
 use Rattle.std.proofs.Math.ListN.{set}

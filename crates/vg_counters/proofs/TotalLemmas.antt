@@ -1,4 +1,4 @@
--- Totals, part by part.
+-- For the clause of `total`: totals, part by part.
 use Rattle.std.proofs.Common.{◌≡◌, ℕ, ◌+◌, ◌<◌, ◌≤◌, ◌^◌, List, [], length, get_or, take, refl, sym, ap, subst, ◌∙◌, inl, inr, arith}
 use Rattle.std.specs.Prelude.{All, slice_index, sum_by, replicate}
 use Rattle.std.proofs.lemmas.List.{take_all, length-replicate, get_or_past, get_or-replicate}

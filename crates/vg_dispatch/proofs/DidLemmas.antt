@@ -1,4 +1,4 @@
--- What a round did, as contracts see it.
+-- For the clauses `round` of `Worker::{round, finish}` and `turn` of `Worker::turn`: what a round did, as contracts see it.
 use Rattle.std.proofs.Common.{◌≡◌, ◌≢◌, ℕ, zero, suc, ◌+◌, ◌-◌, ◌*◌, ◌%◌, ◌<◌, ◌≤◌, List, [], ◌∷◌, ◌++◌, length, map, get_or, take, refl, sym, ap, subst, ◌∙◌, arith}
 use Rattle.std.specs.Prelude.{Bool, true, false, Option, Some, None, ◌↔◌, ◌⊎◌, vec_len}
 use Rattle.std.specs.Bool.{MatchBool, IsTrue}

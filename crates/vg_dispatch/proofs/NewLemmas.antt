@@ -1,4 +1,4 @@
--- A worker before its first turn.
+-- For the clauses `worker`, `idle` and `rings` of `Worker::new`: a worker before its first turn.
 use Rattle.std.proofs.Common.{◌≡◌, ℕ, zero, suc, ◌+◌, ◌%◌, ◌<◌, ◌≤◌, List, [], ◌∷◌, ◌++◌, length, map, get_or, drop, refl, sym, ap, subst, ◌∙◌, arith, length-append}
 use Rattle.std.specs.Prelude.{Bool}
 use Rattle.std.specs.List.{sum_by, AllByRecursion}

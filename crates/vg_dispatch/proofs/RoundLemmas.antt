@@ -1,4 +1,4 @@
--- A round of a worker, and what it comes to.
+-- For the clauses of `Worker::round`, above all `work` and `round`: a round of a worker, and what it comes to.
 use Rattle.std.proofs.Common.{◌≡◌, ℕ, zero, suc, ◌+◌, ◌-◌, ◌*◌, ◌%◌, ◌<◌, ◌≤◌, ◌^◌, List, [], ◌∷◌, ◌++◌, length, map, get_or, take, drop, refl, sym, ap, subst, ◌∙◌, inl, inr, arith, length-append}
 use Rattle.std.specs.Prelude.{Bool, true, false, Option, Some, None, slice_get, replicate, vec_len}
 use Rattle.std.specs.List.{sum_by, filter_map, cons_option, AllByRecursion}

@@ -1,4 +1,4 @@
--- The steps of a round of a worker, one after the other.
+-- For the clauses of `Worker::round`, and for what its calls require: the steps of a round of a worker, one after the other.
 use Rattle.std.proofs.lemmas.Bool.{cases_lt, le-ltb, lt-ltb}
 use Rattle.std.proofs.Common.{◌≡◌, ℕ, zero, suc, inl, inr, ◌+◌, ◌-◌, ◌*◌, ◌<◌, ◌≤◌, ◌^◌, List, [], ◌∷◌, ◌++◌, length, map, take, drop, refl, sym, ap, subst, ◌∙◌, arith}
 use Rattle.std.specs.Prelude.{Bool, true, false, Some, slice_get, replicate, min, ◌==◌, if◌then◌else◌}

@@ -1,4 +1,4 @@
--- A worker's look at its seat, and what it keeps.
+-- For the clause of `looked`, and `worker` of `Worker::{turn, finish}`: a worker's look at its seat, and what it keeps.
 use Rattle.std.proofs.Common.{◌≡◌, ℕ, ◌+◌, ◌*◌, ◌∷◌, sym, ap, subst, ◌∙◌}
 use Rattle.std.specs.Prelude.{Bool, true, false, Option, Some, None}
 use Rattle.vg_model.specs.Visit.{Visit}

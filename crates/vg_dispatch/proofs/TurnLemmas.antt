@@ -1,4 +1,5 @@
--- A turn of a worker: what its parcel says, and what it keeps.
+-- For the clauses `worker` and `turn` of `Worker::turn`, and `worker`, `mark` and `round` of `Worker::finish`: a turn of a worker, that is, what its parcel
+-- says, and what it keeps.
 use Rattle.std.proofs.Common.{◌≡◌, ◌≢◌, ℕ, zero, suc, ◌+◌, ◌<◌, ◌≤◌, List, [], ◌∷◌, length, map, refl, sym, ap, subst, ◌∙◌, arith}
 use Rattle.std.specs.Prelude.{Bool, true, false, Option, Some, None, ◌^◌, min, slice_get}
 use Rattle.std.specs.List.{enumerate_from}

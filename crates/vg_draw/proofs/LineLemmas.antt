@@ -1,4 +1,5 @@
--- Lines in a row, and what stands at a place of a graph.
+-- For the clauses of the functions that append lines (`lines`, `words`, `prefixes`, `shares`, `drawing`), and for `leads_to_drop`: lines in a row, and what
+-- stands at a place of a graph.
 use Rattle.std.proofs.Common.{◌≡◌, ℕ, ◌+◌, ◌<◌, List, [], ◌∷◌, ◌++◌, length, take, get_or, refl, sym, ap, ◌∙◌, append-nil, append_assoc, add-zero, zero-add, suc, map, length-take-le, arith, flat_map, decimal}
 use Rattle.std.proofs.lemmas.List.{take_more}
 use Rattle.std.proofs.lemmas.Grind.{flat_map-append}

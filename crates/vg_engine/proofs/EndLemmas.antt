@@ -1,4 +1,4 @@
--- The workers of a run at its end.
+-- For the clause `outcome` of `conclude`, and for what its calls require: the workers of a run at its end.
 use Rattle.std.proofs.Common.{◌≡◌, ℕ, zero, suc, ◌+◌, ◌<◌, ◌≤◌, inl, inr, List, [], ◌∷◌, ◌++◌, length, map, get_or, refl, sym, ap, subst, ◌∙◌, arith, append-nil}
 use Rattle.std.specs.Prelude.{Bool, slice_get, Some}
 use Rattle.std.specs.List.{AllByRecursion, sum_by}

@@ -1,4 +1,4 @@
--- The outcome of a run.
+-- For the clause `outcome` of `conclude`: the outcome of a run.
 use Rattle.std.proofs.Common.{◌≡◌, ℕ, zero, suc, ◌+◌, ◌*◌, ◌<◌, ◌≤◌, ◌^◌, ◌⊎◌, inl, inr, List, [], ◌∷◌, ◌++◌, length, map, get_or, take, min, refl, sym, ap, subst, ◌∙◌, arith, length-append}
 use Rattle.std.specs.Prelude.{Bool, true, Some, None, slice_get, slice_index, All, flat_map, ◌==◌}
 use Rattle.std.specs.List.{AllByRecursion, sum_by, count_by, cons_option}

@@ -1,4 +1,4 @@
--- What holds of every fork.
+-- For the clauses `kept` of `Fork::{nodes, interfaces, adjacencies, kind, interface, adjacency}`: what holds of every fork.
 use Rattle.std.proofs.Common.{◌≡◌, ◌∙◌, [], ap, subst}
 use Rattle.vg_model.specs.Graph.{with_routes}
 use Rattle.vg_graph.specs.View.{IsKept}

@@ -1,3 +1,4 @@
+-- For the clause of `FrameStore::put_each`, and for those of `Work::{draw_own, take_frame, put_apart, group}` of vg_underway:
 -- How many indexes wait in all.
 use Rattle.std.proofs.Common.{◌≡◌, ℕ, ◌+◌, ◌<◌, List, [], ◌∷◌, ◌++◌, length, map, set, ap, ◌∙◌, arith, append_assoc}
 use Rattle.std.proofs.lemmas.List.{length-append, append-nil, get_or-set_same, set-get_or, set-set}

@@ -1,4 +1,4 @@
--- Edits keep a graph valid and within its limits.
+-- For `Graph::{set_interface, set_adjacency, set_arc, checked_arc, add_node}`: edits keep a graph valid and within its limits.
 use Rattle.std.proofs.Common.{◌≡◌, ℕ, zero, suc, ◌+◌, ◌<◌, ◌≤◌, inl, inr, false, List, [], ◌∷◌, ◌++◌, length, get_or, refl, sym, ap, subst, ◌∙◌, arith, length-append, length-set, true≢false}
 use Rattle.std.specs.Prelude.{Option, Some, None, Result, Ok, Err, slice_get, slice_set, map, option_map, option_and_then, replicate, bytes_eq, OnErr, is_some, ok_or}
 use Rattle.std.specs.List.{AllByRecursion, IsDistinct}

@@ -1,4 +1,5 @@
--- Lists that grow at their end or change in one place, and names in them.
+-- For the edits of `Graph`, for `Search`, and for lists in vg_plan, vg_threads, vg_check and vg_reporting: lists that grow at their end or change in one place,
+-- and names in them.
 use Rattle.std.proofs.Common.{◌≡◌, ℕ, zero, suc, ◌+◌, ◌<◌, ◌≤◌, ◌⊎◌, inl, inr, Bool, true, false, cond, List, [], ◌∷◌, ◌++◌, length, refl, sym, ap, subst, ◌∙◌, arith, zero-add, length-append, length-set}
 use Rattle.std.specs.Prelude.{Option, Some, None, Result, Ok, Err, slice_get, slice_set, map, nat_le, bytes_eq, if◌then◌else◌, replicate}
 use Rattle.std.specs.List.{position_from, AllByRecursion, IsDistinct}

@@ -1,4 +1,4 @@
--- A search reaches exactly the nodes that walks lead to.
+-- For the clauses of `Search::{from, reach, reach_all}` and `Graph::leads`: a search reaches exactly the nodes that walks lead to.
 use Rattle.std.proofs.Common.{◌≡◌, ℕ, zero, suc, ◌+◌, ◌<◌, ◌≤◌, ◌⊎◌, inl, inr, Bool, true, false, List, [], ◌∷◌, ◌++◌, length, refl, sym, ap, subst, ◌∙◌, arith, length-append, length-set, true≢false}
 use Rattle.std.specs.Prelude.{Some, slice_get, slice_set, option_and_then, replicate}
 use Rattle.std.specs.List.{AllByRecursion}

@@ -1,4 +1,4 @@
--- The graph that contracts see, by its lists.
+-- For `Graph::{start, leads}`, and the clause `number` of `Graph::node`: the graph that contracts see, by its lists.
 use Rattle.std.proofs.Common.{◌≡◌, ℕ, List, [], map, length, get_or, ◌<◌, refl, sym, ap, ◌∙◌, lit≤}
 use Rattle.std.specs.Prelude.{Some, slice_get, option_map, bytes_eq}
 use Rattle.std.proofs.lemmas.List.{length-map}

@@ -1,4 +1,4 @@
--- Frames that are handed over may go to another thread.
+-- For `start` of vg_threads, and for backlogs (vg_backlog): frames that are handed over may go to another thread.
 use denote.Param.Send.{IsSend, sendable}
 use Rattle.std.proofs.Crossing
 use Rattle.vg_hands.specs.contracts.hand_frames.HandFrame as HandFrame

@@ -1,4 +1,4 @@
--- What a worker does in turns, one behind the other.
+-- For `laws::turns_add_up`, and for the other laws that put turns together: what a worker does in turns, one behind the other.
 use Rattle.std.proofs.Common.{◌≡◌, ℕ, ◌+◌, ◌≤◌, ◌&&◌, Bool, true, false, cond, List, [], ◌∷◌, ◌++◌, length, refl, sym, ap, ◌∙◌, arith, append_assoc, append-nil}
 use Rattle.std.specs.Prelude.{Option, Some, None, ◌==◌, if◌then◌else◌}
 use Rattle.std.specs.List.{sum_by, count_by, AllByRecursion, filter_map, flat_map}

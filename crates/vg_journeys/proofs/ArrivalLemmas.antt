@@ -1,4 +1,4 @@
--- Every packet that may come to a worker has its leg there.
+-- For `laws::arrivals_end`: every packet that may come to a worker has its leg there.
 use Rattle.std.proofs.Common.{◌≡◌, ℕ, suc, ◌<◌, Bool, true, false, length, refl, ap, ◌∙◌, arith}
 use Rattle.std.specs.Prelude.{Some, option_map, option_and_then, nat_lt, if◌then◌else◌}
 use Rattle.vg_model.specs.declared.kinds.Kind.{Kind}

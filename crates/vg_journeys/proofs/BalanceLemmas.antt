@@ -1,4 +1,4 @@
--- What came to a worker is what it has logged, and what it has handed over.
+-- For `laws::workers_lose_nothing`: what came to a worker is what it has logged, and what it has handed over.
 use Rattle.std.proofs.Common.{◌≡◌, ℕ, suc, ◌+◌, ◌⊎◌, inl, inr, cond, List, [], ◌∷◌, length, sym, ap, ◌∙◌, arith, length-append}
 use Rattle.std.specs.Prelude.{Option, Some, None, ◌==◌, ◌&&◌}
 use Rattle.std.specs.List.{sum_by}

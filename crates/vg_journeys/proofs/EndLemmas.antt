@@ -1,4 +1,4 @@
--- At the end of a run the trips of all workers are all trips.
+-- For `laws::kept_in_the_end`: at the end of a run the trips of all workers are all trips.
 use Rattle.std.proofs.Common.{◌≡◌, ℕ, ◌<◌, ◌≤◌, List, [], ◌∷◌, length, map, refl, sym, ap, subst, ◌∙◌, arith}
 use Rattle.std.specs.Prelude.{Option, Some, None}
 use Rattle.std.specs.List.{sum_by, AllByRecursion}

@@ -1,4 +1,4 @@
--- Which packets went over a queue.
+-- For `laws::trips_are_journeys` and `laws::kept_in_the_end`: which packets went over a queue.
 use Rattle.std.proofs.Common.{◌≡◌, ℕ, ◌+◌, ◌*◌, ◌<◌, ◌⊎◌, inl, inr, Bool, true, false, List, [], ◌∷◌, map, refl, sym, ap, ◌∙◌, arith}
 use Rattle.std.specs.Prelude.{Option, Some, None, ◌==◌, ◌&&◌, if◌then◌else◌}
 use Rattle.std.specs.List.{sum_by, AllByRecursion}

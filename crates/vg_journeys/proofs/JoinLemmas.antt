@@ -1,4 +1,4 @@
--- All workers put together.
+-- For `laws::nothing_is_lost`, and for `workers_lose_nothing`, `buffers_are_counted`, `chains_stay` and `kept_in_the_end` of `laws`: all workers put together.
 use Rattle.std.proofs.Common.{◌≡◌, ℕ, zero, suc, ◌+◌, ◌%◌, ◌<◌, ◌≤◌, ◌⊎◌, inl, inr, Bool, true, false, List, [], ◌∷◌, ◌++◌, length, refl, sym, ap, ◌∙◌, arith}
 use Rattle.std.specs.Prelude.{◌==◌, ◌&&◌, nat_lt, if◌then◌else◌}
 use Rattle.std.specs.List.{sum_by, AllByRecursion}

@@ -1,4 +1,4 @@
--- All trips of a run make journeys under lawful choices.
+-- For `laws::trips_are_journeys`: all trips of a run make journeys under lawful choices.
 use Rattle.std.proofs.Common.{◌≡◌, ℕ, suc, ◌+◌, ◌*◌, ◌≤◌, List, [], ◌∷◌, ◌++◌, length, map, refl, sym, ap, subst, ◌∙◌, arith, zero-add}
 use Rattle.std.specs.Prelude.{Option, Some, None}
 use Rattle.std.specs.List.{sum_by, AllByRecursion, flat_map, cons_option}

@@ -1,4 +1,4 @@
--- What all workers have kept in the end.
+-- For `laws::kept_in_the_end` and `laws::runs_have_outcomes`: what all workers have kept in the end.
 use Rattle.std.proofs.Common.{◌≡◌, ℕ, zero, suc, ◌+◌, ◌*◌, ◌<◌, ◌≤◌, cond, List, [], ◌∷◌, ◌++◌, length, map, get_or, refl, sym, ap, ◌∙◌, arith}
 use Rattle.std.specs.Prelude.{Option, Some, None, ◌==◌, replicate, slice_index}
 use Rattle.std.specs.List.{sum_by, count_by, AllByRecursion, flat_map}

@@ -1,4 +1,4 @@
--- Steps of a run: a turn of a worker, and the push and the pop of a queue.
+-- For the clauses `first` and `next` of `laws::turns_lead_on`: steps of a run, that is, a turn of a worker, and the push and the pop of a queue.
 use Rattle.std.proofs.Common.{◌≡◌, ℕ, ◌<◌, ◌≤◌, ◌⊎◌, inl, inr, Bool, List, [], ◌++◌, length, refl, sym, ap, subst, ◌∙◌, append_assoc}
 use Rattle.std.specs.Prelude.{if◌then◌else◌}
 use Rattle.std.specs.List.{AllByRecursion}

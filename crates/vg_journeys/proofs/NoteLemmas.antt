@@ -1,4 +1,5 @@
--- The nodes noted by all workers for a packet are the trace of its journey.
+-- For `laws::trips_are_journeys`: the nodes noted by all workers for a packet are the trace of its journey. And for `laws::turns_add_trips`: lists that count
+-- the same give the same.
 use Rattle.std.proofs.Common.{◌≡◌, ℕ, zero, suc, ◌+◌, ◌<◌, ◌≤◌, ◌⊎◌, inl, inr, Bool, true, false, List, [], ◌∷◌, ◌++◌, length, get_or, map, refl, sym, ap, subst, ◌∙◌, arith, append-nil, length-append}
 use Rattle.std.specs.Prelude.{Some, ◌==◌, ◌&&◌, if◌then◌else◌}
 use Rattle.std.specs.List.{sum_by, AllByRecursion, flat_map}

@@ -1,4 +1,4 @@
--- What comes of a run, put in order, is what the journeys say.
+-- For `laws::runs_have_outcomes`, and clause `outcome` of `conclude` in vg_engine: what comes of a run, put in order, is what the journeys say.
 use Rattle.std.proofs.Common.{◌≡◌, ℕ, zero, suc, ◌<◌, ◌≤◌, List, [], ◌∷◌, ◌++◌, length, map, take, get_or, refl, sym, ap, subst, ◌∙◌, arith}
 use Rattle.std.specs.Prelude.{All, Bool, true, false, Some, None, slice_index, if◌then◌else◌}
 use Rattle.std.specs.List.{sum_by, AllByRecursion, flat_map, cons_option}

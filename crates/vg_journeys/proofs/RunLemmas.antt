@@ -1,4 +1,4 @@
--- All trips of a run make journeys under lawful choices.
+-- For `laws::trips_are_journeys`: all trips of a run make journeys under lawful choices, trek by trek.
 use Rattle.std.proofs.Common.{◌≡◌, ℕ, suc, ◌+◌, ◌≤◌, List, [], ◌∷◌, ◌++◌, length, map, refl, sym, ap, subst, ◌∙◌, arith, length-append, add-one}
 use Rattle.std.specs.Prelude.{Option, Some, None}
 use Rattle.std.specs.List.{sum_by, AllByRecursion, filter_map, flat_map, cons_option}

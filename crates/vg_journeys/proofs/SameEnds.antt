@@ -1,4 +1,4 @@
--- Ends of packets are told apart by a test.
+-- For `laws::turns_add_trips` and `laws::turns_run_under_their_generation`: ends of packets are told apart by a test.
 use Rattle.std.proofs.Common.{◌≡◌, ℕ, Bool, List, [], ◌∷◌, refl, sym, ap, ◌∙◌}
 use Rattle.std.specs.Prelude.{bytes_eq, slice_get, unwrap_or}
 use Rattle.std.specs.Bool.{Decides}

@@ -1,4 +1,4 @@
--- A trek is a journey.
+-- For `laws::trips_are_journeys`: a trek is a journey.
 use Rattle.std.proofs.Common.{◌≡◌, ℕ, suc, ◌+◌, ◌%◌, ◌≤◌, true, List, [], ◌∷◌, ◌++◌, length, map, refl, sym, ap, subst, ◌∙◌, arith, append_assoc, append-nil, length-append}
 use Rattle.std.specs.Prelude.{Option, Some, None, option_map, ◌==◌, ◌&&◌, if◌then◌else◌}
 use Rattle.std.specs.List.{sum_by, AllByRecursion, filter_map, flat_map, cons_option}

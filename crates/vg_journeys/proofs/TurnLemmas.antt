@@ -1,4 +1,4 @@
--- A turn adds trips.
+-- For `laws::turns_add_trips`, and the clauses `under` and `counted` of `laws::turns_run_under_their_generation`: a turn adds trips.
 use Rattle.std.proofs.Common.{◌≡◌, ℕ, zero, suc, ◌+◌, ◌<◌, ◌≤◌, ◌⊎◌, inl, inr, Bool, true, false, cond, List, [], ◌∷◌, ◌++◌, length, map, refl, sym, ap, subst, ◌∙◌, arith, append-nil, append_assoc, length-append}
 use Rattle.std.specs.Prelude.{Option, Some, None, option_map, unwrap_or, slice_get, ◌==◌, ◌&&◌, if◌then◌else◌}
 use Rattle.std.specs.List.{sum_by, count_by, AllByRecursion, filter_map, flat_map, cons_option}

@@ -1,4 +1,4 @@
--- What the cache of each worker gave out and took in once a run is over: for the fields `allocated_by` and `freed_by` of `AreKept`.
+-- For `laws::kept_in_the_end`, the fields `allocated_by` and `freed_by` of `AreKept`: what the cache of each worker gave out and took in once a run is over.
 use Rattle.std.proofs.Common.{◌≡◌, ℕ, zero, suc, ◌+◌, ◌*◌, ◌%◌, ◌<◌, ◌≤◌, ◌⊎◌, inl, inr, Bool, true, false, cond, List, [], ◌∷◌, ◌++◌, length, map, refl, sym, ap, subst, ◌∙◌, arith}
 use Rattle.std.specs.Prelude.{Option, Some, None, ◌==◌, ◌&&◌, if◌then◌else◌}
 use Rattle.std.specs.List.{sum_by, AllByRecursion}

@@ -1,4 +1,5 @@
--- Drops and ways on as visits that keep the laws, and that are no drops by congestion: what the laws of a set of kinds are made of.
+-- For `ip6_kinds_are_lawful` and `ip6_kinds_never_congest` of vg_ip6, and `dot1q_kinds_are_lawful` and `dot1q_kinds_never_congest` of vg_dot1q: drops and ways
+-- on as visits that keep the laws, and that are no drops by congestion.
 use Rattle.std.proofs.Common.{◌≡◌, ℕ, ◌<◌, ◌≤◌, length, refl, sym, subst, arith}
 use Rattle.std.specs.Prelude.{◌≢◌, Some}
 use Rattle.vg_model.specs.declared.kinds.Kind.{Kind}

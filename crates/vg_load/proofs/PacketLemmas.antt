@@ -1,4 +1,4 @@
--- Sums of headers from a place on, and packets one more.
+-- For the clauses of `ones_complement_sum` and `load_capture`: sums of headers from a place on, and packets one more.
 use Rattle.std.proofs.Common.{◌≡◌, ◌∙◌, ℕ, suc, ◌+◌, ◌-◌, ◌*◌, ◌<◌, ◌≤◌, refl, sym, ap, ap₂, arith, List, [], ◌∷◌, ◌++◌, length, drop, get_or, drop-cons, add-one, append_assoc, append-nil}
 use Rattle.std.specs.Prelude.{slice_index}
 use Rattle.vg_model.specs.Header.{header_sum, ones_sum}

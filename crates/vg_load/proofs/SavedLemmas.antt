@@ -1,4 +1,4 @@
--- The length of the savefile of a load's packets.
+-- For `savefiles_have_their_length`: the length of the savefile of a load's packets.
 use Rattle.std.proofs.Common.{◌≡◌, ◌∙◌, ℕ, zero, suc, ◌+◌, ◌*◌, List, [], ◌∷◌, ◌++◌, length, drop, refl, sym, ap, arith, length-append}
 use Rattle.std.specs.Prelude.{Option, Some, None, option_map, unwrap_or, slice_get, flat_map}
 use Rattle.std.proofs.lemmas.List.{drop-drop}

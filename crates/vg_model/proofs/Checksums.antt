@@ -1,4 +1,5 @@
--- Ones' complement sums, and the update of a checksum by RFC 1624, equation 3.
+-- For `sum_may_be_folded_at_the_end`, and for `verify_header` and `lowered_checksum` of vg_packet: ones' complement sums, and the update of a checksum by
+-- RFC 1624, equation 3.
 use Rattle.std.proofs.Common.{◌≡◌, ℕ, zero, suc, ◌+◌, ◌-◌, ◌*◌, ◌/◌, ◌%◌, ◌<◌, ◌≤◌, List, [], ◌∷◌, length, refl, sym, ap, ◌∙◌, inl, inr, arith}
 use Rattle.std.proofs.lemmas.Bool.{cases_lt, lt-ltb, le-ltb}
 use Rattle.vg_model.specs.Valid.{AreBytes}

@@ -1,4 +1,4 @@
--- The graphs of the worked examples, and runs over them.
+-- For worked examples alone: their graphs, and runs over them.
 use Rattle.std.proofs.Common.{◌≡◌, ℕ, suc, ◌-◌, ◌%◌, ◌^◌, ◌≤◌, lit≤, refl, List, [], ◌∷◌, ◌++◌, map, Some, None}
 use Rattle.std.specs.Prelude.{codes, Option, option_map, unwrap_or, Ok, Err}
 use Rattle.vg_model.specs.declared.fates.End.{End}

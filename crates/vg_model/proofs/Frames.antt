@@ -1,4 +1,4 @@
--- The frames of the worked examples.
+-- For worked examples alone: their frames.
 use Rattle.std.proofs.Common.{ℕ, ◌-◌, List, [], ◌∷◌, ◌++◌, replicate}
 use Rattle.std.specs.Prelude.{set}
 use Rattle.std.specs.Int.{w16, w32, to_be_bytes, from_be_bytes}

@@ -1,4 +1,5 @@
--- A journey goes on by one leg.
+-- For `trips_are_journeys` of vg_journeys, and `take_leg` and `go_on` of vg_replay: a journey goes on by one leg. And for the proofs of all crates
+-- above: what is there after a function, or after a step that may fail, was there before it.
 use Rattle.std.proofs.Common.{◌≡◌, ℕ, suc, ◌+◌, List, [], ◌∷◌, ◌++◌, length, refl, sym, ap, subst, ◌∙◌, arith, zero-add, append_assoc}
 use Rattle.std.specs.Prelude.{Option, Some, None, option_map, option_and_then, slice_get}
 use Rattle.std.proofs.lemmas.Option.{none-some, same_Some}

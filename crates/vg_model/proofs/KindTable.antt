@@ -1,5 +1,5 @@
--- What holds of each kind by the table of kinds, for the proofs of the crates above: for `set_arc` of `vg_graph`, which kinds arcs may lead to; for `print_script`
--- of `vg_script`, by which words scripts say them. A kind without a number in its word needs no line here: a clause for every other kind is checked at each.
+-- For `Graph::checked_arc` of vg_graph, which kinds arcs may lead to, and for `printed_is_read_back` of vg_script, by which words scripts say kinds: what holds
+-- of each kind by the table of kinds. A kind without a number in its word needs no line here: a clause for every other kind is checked at each.
 use Rattle.std.proofs.Common.{◌≡◌, ℕ, Bool, true, false, List, [], refl, true≢false}
 use Rattle.std.proofs.lemmas.Bool.{false≢true}
 use Rattle.std.specs.Prelude.{Some, find, option_map, IsSome, unwrap_or, bytes_eq}

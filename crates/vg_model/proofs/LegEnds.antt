@@ -1,4 +1,4 @@
--- Every leg of a valid graph ends.
+-- For `legs_end`: every leg of a valid graph ends. And for the proofs of all crates above: what a node's arcs and its kind are in a valid graph.
 use Rattle.std.proofs.Common.{◌≡◌, ℕ, zero, suc, ◌<◌, Bool, true, false, List, [], ◌∷◌, length, get_or, refl, sym, ap, subst, ◌∙◌, arith}
 use Rattle.std.specs.Prelude.{Option, Some, None, option_map, option_and_then, slice_get, if◌then◌else◌}
 use Rattle.std.specs.List.{AllByRecursion}

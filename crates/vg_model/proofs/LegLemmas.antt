@@ -1,4 +1,5 @@
--- Legs of valid graphs: a leg is a visit and then the leg from the next node.
+-- For `legs_end`, and for `Work::dispatch_next` of vg_underway, `walk_leg` of vg_replay and `one_generation_ends_packets_alike` of vg_journeys: legs of valid
+-- graphs, of which each is a visit and then the leg from the next node.
 use Rattle.std.proofs.Common.{◌≡◌, ℕ, zero, suc, ◌<◌, Bool, true, false, length, refl, ap, arith}
 use Rattle.std.specs.Prelude.{Option, Some, None, option_map, if◌then◌else◌}
 use Rattle.vg_model.specs.declared.kinds.DropError.TheVariants.{HandoffLimit}

@@ -1,4 +1,4 @@
--- Numbers that lie inline.
+-- For `Members::push`, the invariant: numbers that lie inline.
 use Rattle.std.proofs.Common.{◌≡◌, ℕ, ◌+◌, ◌-◌, ◌<◌, List, drop, replicate, sym, ap, ◌∙◌, arith, length-set}
 use Rattle.std.specs.Prelude.{slice_set}
 use Rattle.std.proofs.lemmas.List.{drop-drop, drop-replicate, drop-set-lt}

@@ -1,4 +1,5 @@
--- Powers of two, and blocks of numbers that begin at their multiples.
+-- For the prefixes that `Levels` of vg_fib puts, and for `last_address` and `Known::leads` of vg_remarks: powers of two, and blocks of numbers that begin at
+-- their multiples.
 use Rattle.std.proofs.Common.{◌≡◌, ℕ, ◌+◌, ◌*◌, ◌/◌, ◌%◌, ◌^◌, ◌≤◌, ◌∙◌, ap, arith}
 use Rattle.std.proofs.lemmas.Nat.{pow_pos, pow-add, mod-pow-add, row_fits, mod_below}
 

@@ -1,4 +1,4 @@
--- Slots by their names.
+-- For the clause of `Kind::slot`, and for `place_of` of vg_report and `Graph::node` of vg_graph: slots by their names.
 use Rattle.std.proofs.Common.{◌≡◌, ℕ, ◌+◌, Bool, cond, List, [], ◌∷◌, map, refl, sym, ap, ◌∙◌}
 use Rattle.std.specs.Prelude.{Option, Some, bytes_eq}
 use Rattle.std.specs.List.{position_from}

@@ -1,4 +1,4 @@
--- The start graph is valid.
+-- For `start_is_valid`, and for `Graph::start` of vg_graph: the start graph is valid.
 use Rattle.std.proofs.Common.{◌≡◌, ℕ, zero, suc, ◌+◌, ◌<◌, ◌≤◌, refl, arith, rules}
 use Rattle.std.specs.Prelude.{Some}
 use Rattle.std.specs.List.{IsDistinct}

@@ -1,4 +1,4 @@
--- Walks, cycles, and the test for a cycle.
+-- For `legs_end` and `start_is_valid`, and for `Graph::{leads, set_arc, add_node}` of vg_graph: walks, cycles, and the test for a cycle.
 use Rattle.std.proofs.Common.{◌≡◌, ℕ, zero, suc, ◌+◌, ◌*◌, ◌<◌, ◌≤◌, ◌⊎◌, Bool, true, false, List, [], ◌∷◌, length, refl, sym, ap, subst, ◌∙◌, inl, inr, arith, zero-add, zero-mul, true≢false}
 use Rattle.std.specs.Prelude.{Option, Some, None, slice_get, option_and_then, option_map, unwrap_or, nat_eq}
 use Rattle.std.specs.List.{list_any, IsDistinct, AllByRecursion}

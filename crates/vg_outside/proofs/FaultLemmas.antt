@@ -1,4 +1,4 @@
--- Counts of faults over several calls.
+-- For callers that save or print more than once: counts of faults over several calls.
 use Rattle.std.proofs.Common.{ℕ, ◌≤◌, arith}
 use Rattle.vg_outside.specs.Files.{Rose}
 

@@ -1,4 +1,4 @@
--- The files of a folder in memory.
+-- For the clauses of `FileMap::{get, set}`, and `ok` and `others` of `save` of a `MemoryFolder` and a `SureFolder`: the files of a folder in memory.
 use Rattle.std.proofs.Common.{◌≡◌, ◌≢◌, ℕ, List, [], ◌∷◌, refl, sym, ap, ◌∙◌, cond, subst}
 use Rattle.std.specs.Prelude.{Bool, true, false, Option, Some, option_map, map, String, Vec, string_bytes, bytes_eq}
 use Rattle.std.specs.Ordering.{nat_cmp, is_eq}

@@ -1,4 +1,4 @@
--- The limits of all generations, in one pass.
+-- For the clauses of `Plan::{limits, book}`: the limits of all generations, in one pass.
 use Rattle.std.proofs.Common.{◌≡◌, ℕ, ◌+◌, ◌<◌, ◌≤◌, Bool, List, [], ◌∷◌, ◌++◌, length, map, get_or, refl, sym, ap, ap₂, ◌∙◌, arith}
 use Rattle.std.specs.Prelude.{zip}
 use Rattle.std.specs.List.{enumerate_from, range_with_len}

@@ -1,4 +1,4 @@
--- Counting the elements of a list that pass a test.
+-- For the clauses of `Plan::{generation_of, limit, limits}`, and for `limits_are_fronts`: counting the elements of a list that pass a test.
 use Rattle.std.proofs.Common.{◌≡◌, ℕ, zero, suc, ◌+◌, ◌<◌, ◌≤◌, ◌⊎◌, inl, inr, Bool, true, false, cond, List, [], ◌∷◌, length, map, get_or, refl, sym, ap, ◌∙◌, arith, true≢false}
 use Rattle.std.specs.Prelude.{count_by}
 use Rattle.std.specs.List.Sorted.{IsPartitionedBy, IsPartitionPoint}

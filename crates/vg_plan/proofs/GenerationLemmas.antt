@@ -1,4 +1,5 @@
--- The graphs that groups of edits make, one after the other.
+-- For the clauses `first` and `next` of `events_are_made`, and for `make_all`, `Plan::generations` and the functions of `Generations`: the graphs that groups
+-- of edits make, one after the other.
 use Rattle.std.proofs.Common.{◌≡◌, ℕ, zero, suc, ◌+◌, List, [], ◌∷◌, length, map, refl, sym, ap, ◌∙◌, arith, add-one}
 use Rattle.std.proofs.lemmas.List.{length-map}
 use Rattle.std.specs.Prelude.{Some, Result, Ok, Err, slice_get, option_map}

@@ -1,4 +1,4 @@
--- Generations that are made one after the other.
+-- For the clauses of `Generations::{of, master, into_master, advance}`: generations that are made one after the other.
 use Rattle.std.proofs.Common.{◌≡◌, ℕ, ◌+◌, ◌<◌, ◌≤◌, List, [], ◌∷◌, length, map, get_or, drop, sym, ap, ◌∙◌, arith}
 use Rattle.std.specs.Prelude.{Some, Ok, Err, slice_get}
 use Rattle.std.proofs.lemmas.List.{drop_more, drop_all}

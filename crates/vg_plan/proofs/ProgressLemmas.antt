@@ -1,4 +1,4 @@
--- How far a script's generations are made.
+-- For the clauses `made` and `refused` of `make_events` and `make_all`: how far a script's generations are made.
 use Rattle.std.proofs.Common.{◌≡◌, ℕ, inl, inr, List, [], ◌∷◌, ◌++◌, map, refl, sym, ap, subst, ◌∙◌}
 use Rattle.std.specs.Prelude.{Ok, Err}
 use Rattle.std.specs.List.{AllByRecursion}

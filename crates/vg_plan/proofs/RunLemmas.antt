@@ -1,4 +1,4 @@
--- The runs of a script's blocks, as the code gathers and sorts them.
+-- For the clauses of `push_runs`, `in_order` and `make_events`, and `times` of `make_all`: the runs of a script's blocks, as the code gathers and sorts them.
 use Rattle.std.proofs.Common.{◌≡◌, ℕ, ◌+◌, ◌*◌, ◌-◌, ◌%◌, ◌<◌, ◌≤◌, Bool, true, false, ◌==◌, ◌&&◌, ◌||◌, cond, List, [], ◌∷◌, ◌++◌, length, map, get_or, drop, refl, sym, ap, ap₂, subst, ◌∙◌, arith, append_assoc, add-one}
 use Rattle.std.specs.Prelude.{flat_map, nat_lt, slice_get, unwrap_or}
 use Rattle.std.specs.Ordering.{is_lt, ordering_then, nat_cmp}

@@ -1,4 +1,4 @@
--- The times of a script's events.
+-- For the clause `times` of `make_all`, and for `Worker::turn` of vg_dispatch: the times of a script's events.
 use Rattle.std.proofs.Common.{◌≡◌, ℕ, ◌≤◌, false, List, [], ◌∷◌, length, map, get_or, sym, ap, subst, arith}
 use Rattle.std.specs.List.{AllByRecursion}
 use Rattle.std.specs.List.Sorted.{IsSortedBy, IsNonDecreasing}

@@ -1,4 +1,4 @@
--- The packets of each generation.
+-- For the clauses of `Plan::{generation_of, limit, limits}`, and for `limits_are_fronts`: the packets of each generation.
 use Rattle.std.proofs.Common.{◌≡◌, ℕ, zero, suc, ◌+◌, ◌<◌, ◌≤◌, ◌⊎◌, ◌↔◌, inl, inr, Bool, true, false, List, [], ◌∷◌, length, get_or, refl, sym, ap, subst, ◌∙◌, arith, true≢false}
 use Rattle.std.specs.Prelude.{Option, Some, None, count_by, nat_le, slice_get}
 use Rattle.std.specs.List.{enumerate_from}

@@ -1,4 +1,4 @@
--- The runs of a lawful script's blocks.
+-- For the clause of `Processes::new`: the runs of a lawful script's blocks.
 use Rattle.std.proofs.Common.{◌≡◌, ℕ, suc, zero, ◌*◌, ◌<◌, List, [], ◌∷◌, ◌++◌, length, get_or, map, refl, ap, arith}
 use Rattle.std.proofs.Math.Nat.{mul-lt-mul_of_pos_right}
 use Rattle.std.proofs.lemmas.List.{length-map}

@@ -1,4 +1,4 @@
--- How often places stand in the list of those that are due.
+-- For the clauses of `Queue::{put, first, take_first, gather}`: how often places stand in the list of those that are due.
 use Rattle.std.proofs.Common.{◌≡◌, ℕ, zero, suc, ◌+◌, ◌<◌, ◌≤◌, ◌⊎◌, List, [], ◌∷◌, length, false, cond, eqb, not, inl, inr, refl, ap, arith}
 use Rattle.std.proofs.lemmas.Bool.{cases_eq, eq-eqb, ne_eqb}
 use Rattle.std.proofs.lemmas.Bool.Decides.{nat_tests}

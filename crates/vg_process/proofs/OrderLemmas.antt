@@ -1,4 +1,4 @@
--- The order of events, and the first of several lists of them.
+-- For the clauses of `Processes::{new, next_time, poll}`: the order of events, and the first of several lists of them.
 use Rattle.std.proofs.Common.{◌≡◌, ℕ, suc, ◌<◌, List, [], ◌∷◌, ◌++◌, true, false, cond, refl, ap, ◌∙◌, arith}
 use Rattle.std.proofs.lemmas.Bool.Decides.{nat_tests}
 use Rattle.std.specs.List.{AllByRecursion as Rec, flat_map}

@@ -1,4 +1,4 @@
--- The queue of places that wait.
+-- For the clauses of `Queue::{put, first, take_first, gather}`, and for `Timers::new`: the queue of places that wait.
 use Rattle.std.proofs.Common.{◌≡◌, ℕ, ◌+◌, ◌<◌, ◌≤◌, ◌⊎◌, List, [], ◌∷◌, length, get_or, Option, Some, None, false, inl, inr, refl, sym, ap, ◌∙◌, arith, All}
 use Rattle.std.proofs.lemmas.Bool.{cases_eq, cases_lt, eq-eqb, ne_eqb}
 use Rattle.std.proofs.lemmas.List.Elements.{recursion_from_All, All-from_recursion, All-weaker, All-cons, All-tail, All-contains}

@@ -1,4 +1,4 @@
--- What one block still has to do.
+-- For the clauses of `State::{time, next_time, next, advance}`: what one block still has to do.
 use Rattle.std.proofs.Common.{◌≡◌, ◌+◌, ◌<◌, ◌≤◌, [], ◌∷◌, length, drop, sym, ap, ◌∙◌, arith}
 use Rattle.std.proofs.lemmas.List.{drop-drop, drop_all}
 use Rattle.vg_script.specs.Events.{runs}

@@ -1,4 +1,4 @@
--- Each call keeps the rule of the queue.
+-- For `ring`, `QueueTx::push`, `QueueRx::pop`, `Rest::next` and `close`: each call keeps the rule of the queue.
 use Rattle.std.proofs.Common.{◌≡◌, ◌≢◌, ℕ, zero, suc, true, true≢false, List, [], ◌∷◌, ◌++◌, length, drop, set, sym, refl, ap, ◌∙◌, subst, ⊎_elim, append_assoc, arith}
 use Rattle.std.specs.Prelude.{Option, Some, None, MatchOption, IfSome, IfNone}
 use mathlib.Core.Option.{some, some-ne-none}

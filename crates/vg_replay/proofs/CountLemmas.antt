@@ -1,4 +1,4 @@
--- What is counted.
+-- For the clauses of `count` and the functions that it calls: what is counted.
 use Rattle.std.proofs.Common.{◌≡◌, ℕ, zero, suc, ◌+◌, ◌<◌, ◌≤◌, ◌^◌, cond, ◌&&◌, List, [], ◌∷◌, ◌++◌, length, get_or, take, refl, sym, ap, subst, ◌∙◌, inl, inr, arith}
 use Rattle.std.specs.Prelude.{◌==◌, slice_index, slice_get, slice_set, unwrap_or, option_map, Option, Some, if◌then◌else◌, All, replicate}
 use Rattle.std.specs.List.{AllByRecursion, sum_by}

@@ -1,4 +1,4 @@
--- Journeys that have come so far.
+-- For the clauses of `never_fall`, `take_leg`, `go_on`, `Underway::{begin, take_on}` and `replay`: journeys that have come so far.
 use Rattle.std.proofs.Common.{◌≡◌, ℕ, suc, ◌+◌, List, [], ◌∷◌, ◌++◌, length, map, cond, refl, sym, ap, subst, ◌∙◌, arith}
 use Rattle.std.specs.Prelude.{Option, Some, None, option_map, option_and_then, slice_get, ◌%◌, true, false}
 use Rattle.std.proofs.lemmas.Option.{none-some, same_Some}

@@ -1,4 +1,4 @@
--- An input, as it is read.
+-- For the clauses of `take_leg`, `go_on`, `Underway::{begin, take_on}` and `replay`: an input, as it is read.
 use Rattle.std.proofs.Common.{◌≡◌, ℕ, ◌<◌, Bool, true, false, List, [], ◌∷◌, length, get_or, map, refl, sym, ap, ◌∙◌, arith}
 use Rattle.std.specs.Prelude.{Option, Some, slice_get, option_map, ◌==◌, Result, Ok, Err, OnOk}
 use Rattle.std.specs.List.{AllByRecursion}

@@ -1,4 +1,5 @@
--- What journeys are like: on which workers their legs are, where they end, and how many nodes they visit.
+-- For the clauses of `go_on` and `Underway::take_on`, `replayed` of `replay`, and `verdict` of vg_check: what journeys are like, that is, on which workers
+-- their legs are, where they end, and how many nodes they visit.
 use Rattle.std.proofs.Common.{◌≡◌, ℕ, suc, ◌+◌, ◌*◌, ◌<◌, ◌≤◌, List, [], ◌∷◌, ◌++◌, length, refl, subst, ◌∙◌, arith, length-append}
 use Rattle.std.specs.Prelude.{Option, Some, None, slice_get, ◌%◌, ◌==◌, if◌then◌else◌, Bool, true, false}
 use Rattle.std.specs.List.{AllByRecursion}

@@ -1,4 +1,5 @@
--- What comes of packets that are taken through.
+-- For the clauses `replayed` and `refused` of `replay`, and for `verdict`, `check` and `yes_is_exact` of vg_check: what comes of packets that are taken
+-- through.
 use Rattle.std.proofs.Common.{◌≡◌, ℕ, zero, suc, ◌+◌, ◌-◌, ◌<◌, ◌≤◌, List, [], ◌∷◌, length, map, take, refl, sym, ap, subst, ◌∙◌, inl, inr, arith}
 use Rattle.std.specs.Prelude.{◌⊎◌, Option, Some, option_map, option_and_then, slice_get, ◌==◌, sum, if◌then◌else◌}
 use Rattle.std.specs.List.{AllByRecursion, sum_by, flat_map}

@@ -1,4 +1,4 @@
--- Lists of numbers by generation.
+-- For the clauses of `Schedule::{put, take}`: lists of numbers by generation.
 use Rattle.std.proofs.Common.{◌≡◌, ℕ, ◌+◌, ◌<◌, List, [], ◌∷◌, ◌++◌, length, get_or, map, sym, ap, ◌∙◌}
 use Rattle.std.specs.Prelude.{slice_set, slice_index_or, replicate}
 use Rattle.std.proofs.lemmas.List.{map-set, get_or-map, map_push, replicate_more}

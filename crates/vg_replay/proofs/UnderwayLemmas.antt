@@ -1,4 +1,4 @@
--- Packets that are being taken through, generation by generation.
+-- For the clauses of `Underway::{begin, take_on, take_all}`, `pass` and `pass_all`: packets that are being taken through, generation by generation.
 use Rattle.std.proofs.Common.{◌≡◌, ℕ, zero, suc, ◌+◌, ◌*◌, ◌<◌, ◌≤◌, Bool, true, false, List, [], ◌∷◌, ◌++◌, length, get_or, take, drop, refl, sym, ap, ap₂, subst, ◌∙◌, inl, inr, arith, length-append}
 use Rattle.std.specs.Prelude.{◌⊎◌, Option, Some, None, option_map, option_and_then, unwrap_or, ◌==◌, slice_get, slice_set, slice_index_or, All, if◌then◌else◌}
 use Rattle.std.specs.List.{AllByRecursion, sum_by}

@@ -1,4 +1,4 @@
--- A packet that goes on under one generation.
+-- For the clauses of `take_leg` and `go_on`: a packet that goes on under one generation.
 use Rattle.std.proofs.Common.{◌≡◌, ℕ, zero, suc, ◌+◌, ◌<◌, ◌≤◌, Bool, true, false, List, [], ◌∷◌, ◌++◌, length, map, take, drop, refl, sym, ap, subst, ◌∙◌, inl, inr, arith, add-one}
 use Rattle.std.specs.Prelude.{◌⊎◌, Some, None, option_map, slice_get, ◌%◌, Result, Ok, Err, IfOk}
 use Rattle.std.specs.List.{AllByRecursion}

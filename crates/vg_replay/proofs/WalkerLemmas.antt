@@ -1,4 +1,4 @@
--- The packet that is walked.
+-- For the clauses of `Walker::step` and `kept` of `Lists::note`: the packet that is walked.
 use Rattle.std.proofs.Common.{◌≡◌, ℕ, suc, [], ◌∷◌, ◌++◌, Bool, true, length, sym, ap, subst, ◌∙◌}
 use Rattle.std.specs.Prelude.{Option, Some}
 use Rattle.vg_model.specs.declared.kinds.DropError.{DropError}

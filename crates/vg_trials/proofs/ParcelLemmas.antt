@@ -1,4 +1,5 @@
--- What the proofs of the tests rest on: the graphs of a script with one event, and parcels of the two generations.
+-- For the tests' `limit_of`, `only_edits`, `make_event`, `first_parcels` and `renew_both`: the graphs of a script with one event, and parcels of the two
+-- generations.
 use Rattle.std.proofs.Common.{◌≡◌, ℕ, zero, suc, ◌+◌, ◌<◌, ◌≤◌, List, [], ◌∷◌, ◌++◌, length, get_or, map, flat_map, refl, sym, ap, subst, ◌∙◌, arith}
 use Rattle.std.specs.Prelude.{Option, Some, None, IfSome, Result, Ok, Err, OnOk, option_map, slice_get}
 use mathlib.Core.Option.{some, some-injective, some-ne-none}

@@ -1,4 +1,4 @@
--- The steps that bytes say are those of main and of the workers.
+-- For the clause `steps` of `Turns::read`: the steps that bytes say are those of main and of the workers.
 use Rattle.std.proofs.Common.{◌≡◌, ℕ, ◌-◌, ◌<◌, Bool, true, false, List, [], ◌∷◌, Some, None, cond, refl, arith}
 use Rattle.std.proofs.lemmas.Bool.Decides.{nat_tests}
 use Rattle.std.specs.List.{AllByRecursion, cons_option}

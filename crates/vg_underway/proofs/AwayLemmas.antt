@@ -1,4 +1,4 @@
--- The packets of a dispatch are put away one by one.
+-- For the clauses of `Work::{put_apart, group, dispatch_next, dispatch_all}` and `away` of `Work::put_away`: the packets of a dispatch are put away one by one.
 use Rattle.std.proofs.Common.{◌≡◌, ℕ, suc, ◌+◌, ◌<◌, ◌≤◌, ◌^◌, List, [], ◌∷◌, ◌++◌, length, map, get_or, take, drop, set, refl, sym, ap, subst, ◌∙◌, arith, add-one, drop-cons, append_assoc}
 use Rattle.std.specs.Prelude.{Bool, Option, Some, None, IfSome, slice_index, vec_len, vec_capacity}
 use Rattle.std.specs.List.{sum_by, AllByRecursion}

@@ -1,4 +1,4 @@
--- Counts with one end more.
+-- For the clauses of `Work::{put_apart, group}`, `handed` of `Work::hand_over` and `drawn` of `Work::draw_own`: counts with one end more.
 use Rattle.std.proofs.Common.{◌≡◌, ℕ, ◌+◌, ◌*◌, ◌<◌, ◌≤◌, Bool, true, false, cond, ◌&&◌, List, [], ◌∷◌, length, get_or, refl, sym, ap, ◌∙◌, inl, inr, arith, zero-add}
 use Rattle.std.specs.Prelude.{◌==◌, slice_index, if◌then◌else◌, All}
 use Rattle.std.specs.List.{sum_by}

@@ -1,4 +1,5 @@
--- What goes into the queues of a worker.
+-- For the clauses `away` of `Work::{hand_groups, put_away}`, `dispatched` of `Work::{dispatch_next, dispatch_all}` and `round` of `Worker::round` in
+-- vg_dispatch: what goes into the queues of a worker.
 use Rattle.std.proofs.Common.{◌≡◌, ◌≢◌, ℕ, zero, suc, ◌+◌, ◌<◌, ◌≤◌, List, [], ◌∷◌, ◌++◌, length, set, refl, sym, ap, subst, ◌∙◌, inl, inr, arith, append_assoc, length-append}
 use Rattle.std.specs.Prelude.{Bool, true, false, Option, Some, None, ◌==◌, if◌then◌else◌}
 use Rattle.std.specs.List.{sum_by, AllByRecursion}

@@ -1,4 +1,4 @@
--- Packets are drawn one by one.
+-- For the clauses `drawn` of `Work::draw_own` and `taken` of `Work::take_frame`: packets are drawn, or come from another worker, one by one.
 use Rattle.std.proofs.Common.{◌≡◌, ℕ, suc, ◌+◌, ◌*◌, ◌<◌, ◌≤◌, ◌&&◌, Bool, true, false, cond, List, [], ◌∷◌, ◌++◌, length, set, length-append, refl, sym, ap, subst, ◌∙◌, inl, inr, arith, zero-add, ◌^◌}
 use Rattle.std.specs.Prelude.{Option, None, flat_map, is_some, unwrap_or, ◌==◌, slice_index, vec_len, vec_capacity}
 use Rattle.std.specs.List.{sum_by, AllByRecursion}

@@ -1,4 +1,4 @@
--- Packets stay traced as one more comes.
+-- For the clauses `drawn` of `Work::draw_own` and `taken` of `Work::take_frame`: packets stay traced as one more comes.
 use Rattle.std.proofs.Common.{◌≡◌, ◌≢◌, ℕ, zero, suc, ◌+◌, ◌<◌, ◌≤◌, ◌&&◌, Bool, true, false, List, [], ◌∷◌, ◌++◌, length, refl, sym, ap, subst, ◌∙◌, inl, inr, arith}
 use Rattle.std.specs.Prelude.{Option, Some, None, is_some, option_map, unwrap_or, flat_map, ◌==◌, if◌then◌else◌}
 use Rattle.std.specs.List.{sum_by}

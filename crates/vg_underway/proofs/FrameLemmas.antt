@@ -1,4 +1,4 @@
--- A frame is taken, visited and sorted.
+-- For the clause `dispatched` of `Work::dispatch_next`, and for what its calls require: a frame is taken, visited and sorted.
 use Rattle.std.proofs.Common.{◌≡◌, ℕ, zero, suc, ◌+◌, ◌*◌, ◌<◌, ◌≤◌, ◌^◌, true, cond, List, [], ◌∷◌, ◌++◌, length, set, drop, refl, sym, ap, subst, ◌∙◌, inl, inr, arith, zero-add}
 use Rattle.std.specs.Prelude.{Option, Some, None, is_some, option_map, unwrap_or, slice_index, nat_eq}
 use Rattle.std.specs.List.{sum_by, AllByRecursion, IsDistinct}

@@ -1,4 +1,4 @@
--- Packets that are handed over go into groups.
+-- For the clause of `Work::group`, and for `Work::hand_groups`: packets that are handed over go into groups.
 use Rattle.std.proofs.Common.{◌≡◌, ◌≢◌, ℕ, zero, suc, ◌+◌, ◌<◌, ◌≤◌, List, [], ◌∷◌, ◌++◌, length, map, drop, set, get_or, refl, sym, ap, subst, ◌∙◌, arith, append_assoc, length-append}
 use Rattle.std.specs.Prelude.{Option, Some, None, replicate, ◌==◌, if◌then◌else◌}
 use Rattle.std.proofs.Math.ListN.{length-set}

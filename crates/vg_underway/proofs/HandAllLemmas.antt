@@ -1,4 +1,4 @@
--- All packets of a frame are handed over, or dropped.
+-- For the clause `handed` of `Work::hand_over`: all packets of a frame are handed over, or dropped.
 use Rattle.std.proofs.Common.{◌≡◌, ◌≢◌, ℕ, suc, ◌+◌, ◌<◌, ◌≤◌, List, [], ◌∷◌, ◌++◌, length, map, take, drop, get_or, drop-cons, add-one, refl, sym, ap, subst, ◌∙◌, inl, inr, arith, append_assoc, length-append}
 use Rattle.std.specs.Prelude.{Bool, false, Option, Some, None, is_some, unwrap_or}
 use Rattle.std.specs.List.{sum_by, AllByRecursion}

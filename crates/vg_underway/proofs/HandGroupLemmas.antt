@@ -1,4 +1,4 @@
--- Groups of packets are handed over, one behind the other.
+-- For the clauses of `Work::hand_groups` and `away` of `Work::put_away`: groups of packets are handed over, one behind the other.
 use Rattle.std.proofs.Common.{◌≡◌, ◌≢◌, ℕ, zero, suc, ◌+◌, ◌<◌, ◌≤◌, ◌^◌, List, [], ◌∷◌, ◌++◌, length, map, get_or, set, refl, sym, ap, subst, ◌∙◌, inl, inr, arith}
 use Rattle.std.specs.Prelude.{Bool, replicate}
 use Rattle.std.specs.List.{AllByRecursion}

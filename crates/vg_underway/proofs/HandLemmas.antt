@@ -1,4 +1,4 @@
--- Packets are handed over one by one.
+-- For the clause `handed` of `Work::hand_over`: packets are handed over one by one.
 use Rattle.std.proofs.Common.{◌≡◌, ◌≢◌, ℕ, suc, ◌+◌, ◌<◌, ◌≤◌, ◌&&◌, Bool, true, false, cond, List, [], ◌∷◌, ◌++◌, length, length-append, refl, sym, ap, subst, ◌∙◌, inl, inr, arith}
 use Rattle.std.specs.Prelude.{Option, Some, None, is_some, unwrap_or, slice_index, flat_map, vec_len, vec_capacity, ◌==◌, if◌then◌else◌}
 use Rattle.std.specs.List.{sum_by}

@@ -1,4 +1,5 @@
--- What a leg keeps of a packet, how long it is, and where it ends with one worker.
+-- For the clauses `drawn` of `Work::draw_own`, `taken` of `Work::take_frame` and `round` of `Worker::round` in vg_dispatch: what a leg keeps of a packet, how
+-- long it is, and what it counts at most.
 use Rattle.std.proofs.Common.{◌≡◌, ℕ, zero, suc, ◌+◌, ◌<◌, ◌≤◌, Bool, true, false, List, [], ◌∷◌, ◌++◌, length, length-append, refl, sym, ap, subst, ◌∙◌, arith}
 use Rattle.std.specs.Prelude.{Option, Some, None, slice_get, option_map, option_and_then, unwrap_or, nat_lt, ◌==◌, if◌then◌else◌}
 use Rattle.std.specs.List.{sum_by}

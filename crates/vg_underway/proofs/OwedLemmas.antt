@@ -1,4 +1,5 @@
--- One visit moves a packet by one step of its leg.
+-- For the clause `dispatched` of `Work::dispatch_next`: one visit moves a packet by one step of its leg. And for `Work::{draw, take, put_apart, group}`: a node
+-- that packets may go on to is one of the graph's.
 use Rattle.std.proofs.Common.{◌≡◌, ℕ, suc, ◌+◌, ◌*◌, ◌<◌, List, [], ◌∷◌, length, refl, sym, ap, subst, ◌∙◌, arith, zero-add}
 use Rattle.std.specs.Prelude.{Option, Some, None, option_map, unwrap_or, slice_get}
 use Rattle.std.specs.List.{sum_by}

@@ -1,4 +1,4 @@
--- The packets of a worker, in order.
+-- For the clauses of `own_of`, `total_bytes` and `Work::draw_own`: the packets of a worker, in order.
 use Rattle.std.proofs.Common.{◌≡◌, ℕ, zero, suc, ◌+◌, ◌-◌, ◌<◌, ◌≤◌, List, [], ◌∷◌, ◌++◌, length, get_or, take, drop, drop-cons, add-one, refl, sym, ap, ◌∙◌, arith}
 use Rattle.std.specs.Prelude.{Some, option_map, slice_get}
 use Rattle.std.proofs.lemmas.Option.{slice_get-get_or}

@@ -1,4 +1,5 @@
--- One for each worker of a run, where there is one for each other worker.
+-- For the clauses of `place_of` and `Work::hand_groups`, and of `Worker::{accepted, dispatched, idle, round}` in vg_dispatch: one for each worker of a run,
+-- where there is one for each other worker.
 use Rattle.std.proofs.Common.{◌≡◌, ◌≢◌, ℕ, zero, suc, ◌+◌, ◌-◌, ◌<◌, ◌≤◌, List, [], ◌∷◌, length, map, get_or, set, refl, sym, ap, subst, arith}
 use Rattle.std.specs.List.{AllByRecursion}
 use Rattle.vg_underway.specs.Peers.{place_among, by_worker}

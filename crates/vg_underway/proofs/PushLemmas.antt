@@ -1,4 +1,5 @@
--- Pushes of frames, one after the other, and what is logged by them.
+-- For the clauses `pushed` of `Work::hand_over`, `away` of `Work::{hand_groups, put_away}` and `dispatched` of `Work::dispatch_all`: pushes of frames, one
+-- after the other, and what is logged by them.
 use Rattle.std.proofs.Common.{◌≡◌, ◌≢◌, ℕ, zero, suc, ◌+◌, ◌<◌, Bool, List, [], ◌∷◌, ◌++◌, length, map, get_or, set, refl, sym, ap, subst, ◌∙◌, inl, inr, arith, append_assoc, zero-add}
 use Rattle.std.specs.Prelude.{true, false, Option, Some, None, is_some, ◌==◌, if◌then◌else◌}
 use Rattle.std.specs.List.{sum_by, filter_map, cons_option, AllByRecursion}

@@ -1,4 +1,4 @@
--- A packet that was visited is put away: it waits for another node, or its leg is over.
+-- For the clauses of `Work::{put_apart, group}`: a packet that was visited is put away, so that it waits for another node, or its leg is over.
 use Rattle.std.proofs.Common.{◌≡◌, ℕ, suc, ◌+◌, ◌<◌, cond, List, [], ◌∷◌, ◌++◌, length, set, refl, sym, ap, subst, ◌∙◌, inl, inr, arith, zero-add}
 use Rattle.std.specs.Prelude.{Option, Some, None, is_some, unwrap_or, slice_index}
 use Rattle.std.specs.List.{sum_by, count_by, filter_map, cons_option}

@@ -1,4 +1,5 @@
--- From one rest of a worker to the next.
+-- For the clauses `work` and `round` of `Worker::round` and `worker` of `Worker::new`, in vg_dispatch, and for `Work::take_frames`: from one rest of a worker
+-- to the next.
 use Rattle.std.proofs.Common.{◌≡◌, ℕ, zero, suc, ◌+◌, ◌-◌, ◌*◌, ◌<◌, ◌≤◌, ◌^◌, cond, List, [], ◌∷◌, ◌++◌, length, get_or, refl, sym, ap, subst, ◌∙◌, arith, append_assoc, length-append}
 use Rattle.std.specs.Prelude.{Bool, Option, Some, None, is_some, option_map, unwrap_or, slice_index, replicate, Vec, vec_len, flat_map, ◌==◌, if◌then◌else◌}
 use Rattle.std.specs.Option.{option_to_list}

@@ -1,4 +1,5 @@
--- Bytes of packets behind those of others.
+-- For the clauses `sent` and `within` of `Work::keep`, and those of `SentList::with`, and of `spread` and `in_place` in vg_savefile: bytes of packets behind
+-- those of others.
 use Rattle.std.proofs.Common.{◌≡◌, ℕ, zero, suc, ◌+◌, ◌-◌, ◌<◌, ◌≤◌, List, [], ◌∷◌, ◌++◌, length, map, take, drop, get_or, refl, sym, ap, subst, ◌∙◌, arith, length-append}
 use Rattle.std.specs.Prelude.{slice_range}
 use Rattle.std.specs.List.{AllByRecursion}

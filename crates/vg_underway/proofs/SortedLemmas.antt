@@ -1,4 +1,4 @@
--- A frame's indexes in sorted lists, taken together.
+-- For the clause `dispatched` of `Work::dispatch_next`: a frame's indexes in sorted lists, taken together.
 use Rattle.std.proofs.Common.{◌≡◌, ◌≢◌, ℕ, ◌+◌, ◌<◌, ◌≤◌, true, false, List, [], ◌∷◌, ◌++◌, map, refl, sym, ap, subst, ◌∙◌, inl, inr, ◌⊎◌, arith}
 use Rattle.std.specs.Prelude.{Option, Some, None, option_map, option_and_then, unwrap_or, nat_eq, is_some, if◌then◌else◌}
 use Rattle.std.specs.List.{sum_by, AllByRecursion, IsDistinct, cons_option}

@@ -1,4 +1,4 @@
--- Sums over lists by their places, and over counts by theirs.
+-- For the clauses of `Work` on what is owed, and of `Worker::round` in vg_dispatch: sums over lists by their places, and over counts by theirs.
 use Rattle.std.proofs.Common.{◌≡◌, ℕ, zero, suc, ◌+◌, ◌*◌, ◌<◌, ◌≤◌, List, [], ◌∷◌, ◌++◌, length, get_or, set, refl, sym, ap, ◌∙◌, arith, true, false}
 use Rattle.std.specs.Prelude.{◌==◌, if◌then◌else◌}
 use Rattle.std.specs.List.{sum_by, AllByRecursion}

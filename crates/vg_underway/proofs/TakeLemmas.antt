@@ -1,4 +1,4 @@
--- The packets of a frame that another worker handed over come one by one.
+-- For the clause `taken` of `Work::take_frame`: the packets of a frame that another worker handed over come one by one.
 use Rattle.std.proofs.Common.{◌≡◌, ℕ, List, [], ◌∷◌, ◌++◌, length, map, refl, sym, ap, subst, ◌∙◌, arith, append_assoc, length-append}
 use Rattle.std.proofs.lemmas.List.{map-append, length-map}
 use Rattle.vg_model.specs.declared.fates.Leg.{Leg}

@@ -1,4 +1,4 @@
--- Frames are taken from queues, one by one.
+-- For the clause of `Work::take_frames`, and for `Worker::round` in vg_dispatch: frames are taken from queues, one by one.
 use Rattle.std.proofs.Common.{◌≡◌, ℕ, suc, ◌+◌, ◌*◌, ◌<◌, ◌≤◌, List, [], ◌∷◌, ◌++◌, length, map, get_or, set, refl, sym, ap, subst, ◌∙◌, arith, length-append}
 use Rattle.std.specs.Prelude.{Some, None, vec_len}
 use Rattle.std.specs.List.{sum_by, AllByRecursion}

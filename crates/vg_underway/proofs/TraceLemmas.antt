@@ -1,4 +1,5 @@
--- Packets stay traced as they are drawn, wait for nodes and are taken out.
+-- For the clauses of `Work::{draw_own, take_frame, put_apart, group, hand_over, put_away, dispatch_all}`: packets stay traced as they are drawn, wait for nodes
+-- and are taken out.
 use Rattle.std.proofs.Common.{◌≡◌, ◌≢◌, ℕ, zero, suc, ◌+◌, ◌<◌, ◌≤◌, ◌&&◌, Bool, true, false, List, [], append_assoc, ◌∷◌, ◌++◌, length, set, refl, sym, ap, subst, ◌∙◌, inl, inr, ◌⊎◌, arith}
 use Rattle.std.specs.Prelude.{Option, Some, None, is_some, unwrap_or, flat_map, ◌==◌, if◌then◌else◌}
 use Rattle.std.specs.List.{sum_by, AllByRecursion}

@@ -1,4 +1,4 @@
--- The visits of a frame are noted, and its packets stay traced.
+-- For the clauses of `Work::note_frame` and `dispatched` of `Work::dispatch_next`: the visits of a frame are noted, and its packets stay traced.
 use Rattle.std.proofs.Common.{◌≡◌, ◌≢◌, ℕ, zero, suc, ◌+◌, ◌-◌, ◌<◌, ◌≤◌, Bool, true, false, cond, ◌&&◌, List, [], ◌∷◌, ◌++◌, length, get_or, set, take, drop, refl, sym, ap, subst, ◌∙◌, inl, inr, arith, append_assoc, length-append}
 use Rattle.std.specs.Prelude.{Option, Some, None, is_some, option_map, unwrap_or, nat_lt}
 use Rattle.std.specs.List.{sum_by, AllByRecursion}

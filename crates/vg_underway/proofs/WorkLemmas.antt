@@ -1,4 +1,5 @@
--- What stays as a worker's buffers go from place to place.
+-- For the clauses of `Work::{draw_own, take_frame, put_apart, group, hand_over, hand_groups, dispatch_next, dispatch_all}`, and of `Worker::round` in
+-- vg_dispatch: what stays as a worker's buffers go from place to place.
 use Rattle.std.proofs.Common.{◌≡◌, ℕ, suc, ◌+◌, ◌<◌, ◌≤◌, Bool, true, false, cond, List, [], ◌∷◌, ◌++◌, length, refl, sym, ap, ◌∙◌, arith, append_assoc, length-append}
 use Rattle.std.specs.Prelude.{Option, Some, None, is_some, unwrap_or, ◌==◌, if◌then◌else◌}
 use Rattle.std.specs.List.{sum_by, count_by, filter_map, cons_option, AllByRecursion}

@@ -1,4 +1,4 @@
--- The checks of the words behind `run`, word by word.
+-- For the clauses of `are_well_formed` and `read_run`: the checks of the words behind `run`, word by word.
 use Rattle.std.proofs.Common.{◌≡◌, ◌∙◌, ◌+◌, ◌-◌, ◌<◌, ◌&&◌, ℕ, Bool, true, false, not, refl, sym, ap, List, [], ◌∷◌, ◌++◌, length, drop, take, get_or, Option, Some, None, arith, drop-cons, add-one}
 use Rattle.std.specs.Borrow.{Bor}
 use Rattle.std.specs.Prelude.{is_some, bytes_eq, map}

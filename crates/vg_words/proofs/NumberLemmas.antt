@@ -1,4 +1,4 @@
--- Decimal numbers, in the steps in which they are read.
+-- For the clauses of `is_decimal` and `number`, and for those that read numbers in vg_why and vg_drawing: decimal numbers, in the steps in which they are read.
 use Rattle.std.proofs.Common.{◌≡◌, ℕ, ◌^◌, ◌<◌, true, false, cond, not, ◌&&◌, ◌||◌, ltb, leb, eqb, List, length, get_or, sym, ap, ◌∙◌, arith, ltb-true, lt-ltb, ne_eqb, rules}
 use Rattle.std.proofs.lemmas.Bool.{and_parts, and_from, and_right, lt-leb}
 use Rattle.std.specs.Prelude.{Some, None, Err}

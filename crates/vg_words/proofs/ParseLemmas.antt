@@ -1,4 +1,4 @@
--- A parse of the words behind `run`: what it holds in the end, and that it has a fault where there are too many names.
+-- For the clause of `read_run`: a parse of the words behind `run`, that is, what it holds in the end, and that it has a fault where there are too many names.
 use Rattle.std.proofs.Common.{◌≡◌, ◌∙◌, ◌<◌, ◌≤◌, ◌&&◌, ◌⊎◌, suc, Bool, cond, true, false, not, refl, sym, subst, List, [], ◌∷◌, ◌++◌, length, codes, Option, Some, None, inl, inr, arith, length-append}
 use Rattle.std.specs.Prelude.{is_some}
 use Rattle.std.specs.List.{fold}

@@ -1,4 +1,4 @@
--- Numbers in their ranges, and commands of another kind.
+-- For `runs_are_in_range` and `loads_are_in_range`, and for the clause of `read_load`: numbers in their ranges, and commands of another kind.
 use Rattle.std.proofs.Common.{◌≡◌, ◌+◌, ◌*◌, ◌≤◌, ◌&&◌, ℕ, Bool, cond, true, false, refl, ap, subst, List, [], ◌∷◌, length, codes, nat_le, Option, Some, None, option_map, arith, leb-true}
 use Rattle.std.specs.Borrow.{Bor}
 use Rattle.std.specs.Prelude.{bytes_eq}

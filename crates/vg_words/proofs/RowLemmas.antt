@@ -1,4 +1,4 @@
--- The rows of a parse that has seen some arguments once each, with one value.
+-- For the clause of `read_run`: the rows of a parse that has seen some arguments once each, with one value.
 use Rattle.std.proofs.Common.{◌≡◌, ◌||◌, Bool, true, false, refl, ap, List, [], ◌∷◌, ◌++◌, Some, None, inl, inr, true≢false}
 use Rattle.std.specs.Str.{bytes_eq}
 use Rattle.clap.specs.Facts.{parser_of_value, unwrap_or_range}

@@ -1,4 +1,4 @@
--- The parser of the words of `run`, as a whole.
+-- For the clauses of `run_matches` and `read_run`: the parser of the words of `run`, as a whole.
 use Rattle.std.proofs.Common.{◌≡◌, ◌∙◌, ◌≤◌, ◌||◌, ◌⊎◌, ℕ, Bool, cond, true, false, refl, sym, ap, subst, List, [], ◌∷◌, ◌++◌, length, codes, Option, Some, None, inl, inr, true≢false, arith}
 use Rattle.std.specs.Prelude.{is_some, slice_get}
 use Rattle.std.specs.List.{fold, list_all}

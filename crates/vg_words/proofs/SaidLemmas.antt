@@ -1,4 +1,4 @@
--- A parse of `run` holds what the words so far say.
+-- For the clause of `read_run`: a parse of `run` holds what the words so far say.
 use Rattle.std.proofs.Common.{◌≡◌, ◌∙◌, ◌||◌, Bool, true, false, refl, sym, ap, subst, List, [], ◌∷◌, ◌++◌, codes, Some, inl, inr, true≢false}
 use Rattle.std.specs.Prelude.{is_some, slice_get}
 use Rattle.std.specs.List.{list_all}

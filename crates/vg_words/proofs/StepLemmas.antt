@@ -1,4 +1,4 @@
--- One word of a parse of `run`, by what it says.
+-- For the clause of `read_run`: one word of a parse of `run`, by what it says.
 use Rattle.std.proofs.Common.{◌≡◌, ◌&&◌, ◌==◌, ℕ, suc, Bool, cond, true, false, refl, sym, subst, List, [], ◌∷◌, ◌++◌, Option, Some, None, option_map, true≢false}
 use Rattle.std.specs.Str.{bytes_eq}
 use Rattle.std.proofs.lemmas.Bool.{eqb-true}

@@ -1,4 +1,4 @@
--- Texts that are compared, and searches by them.
+-- For the clauses of `option_in` and `read_run`: texts that are compared, and searches by them.
 use Rattle.std.proofs.Common.{◌≡◌, ◌∙◌, ◌&&◌, ◌||◌, ◌⊎◌, ◌==◌, ℕ, Bool, cond, true, false, not, refl, sym, ap, ap₂, subst, arith, suc, ◌<◌, length, [], ◌∷◌, codes, Option, Some, None, inl, inr, true≢false, eq-eqb}
 use Rattle.std.specs.List.{list_any, position_or_len, before_first, after_first}
 use Rattle.std.proofs.lemmas.List.{take_all}

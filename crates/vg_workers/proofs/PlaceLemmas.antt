@@ -1,4 +1,5 @@
--- Lists that have an entry for each worker, for each other worker, or for each pair of workers.
+-- For the functions of `links`, `crews`, `ends` and `closing`, and for `seats_of`, `workers_of` and `conclude` of vg_engine: lists that have an entry for each
+-- worker, for each other worker, or for each pair of workers.
 use Rattle.std.proofs.Common.{◌≡◌, ◌≢◌, ℕ, zero, suc, ◌+◌, ◌<◌, ◌≤◌, ◌⊎◌, inl, inr, List, [], ◌∷◌, ◌++◌, length, map, set, get_or, refl, sym, ap, subst, ◌∙◌, arith, append-nil}
 use Rattle.std.specs.Prelude.{Bool, true, false, ◌==◌, slice_get, Some, if◌then◌else◌}
 use Rattle.std.specs.List.{AllByRecursion, flat_map}
