@@ -31,7 +31,7 @@ line_text text = text ++ 10 ∷ []
 abbrev pub remark_text : (name remark : List ℕ) → List ℕ
 remark_text name remark = codes "# " ++ (name ++ (32 ∷ (remark ++ 10 ∷ [])))
 
--- a comment on a line of the script, which has this
+-- a comment on a line of the script: its beginning, and all of it, with what the line has
 abbrev pub line_begin : (line : ℕ) → List ℕ
 line_begin line = codes "# line " ++ (decimal line ++ codes " of the script has ")
 
@@ -58,10 +58,11 @@ head = forwarding_line ++ (answers_line ++ (addresses_line ++ choice_line))
 
 -- ---- interfaces
 
+-- the word for an interface that is up, or for one that is down
 abbrev pub up_word : Bool → List ℕ
 up_word up = if up then codes " up" else codes " down"
 
--- its address, then its mtu and whether it is up
+-- the command for an interface: first its name and its address, then its mtu and whether it is up
 abbrev pub link_begin : (name : List ℕ) → List ℕ
 link_begin name = codes "ip link set dev " ++ (name ++ codes " address ")
 
@@ -76,6 +77,7 @@ abbrev pub filter_text : Interface → List ℕ
 filter_text interface =
     if interface.filter then [] else remark_text interface.name (codes "takes frames to every address; the kernel's router takes those to its own")
 
+-- the command, and the comment
 abbrev pub interface_text : Interface → List ℕ
 interface_text interface = link_text interface ++ (state_text interface ++ filter_text interface)
 
@@ -102,17 +104,17 @@ abbrev pub neighbor_address : Version → ℕ → List ℕ
 neighbor_address Ip4 number = address_text (0xc6120001 + number)
 neighbor_address Ip6 number = codes "fe80::" ++ group_text (number + 1)
 
+-- the command that sets an address of a neighbor: first the address, then the link-layer address, then the interface
 abbrev pub neighbor_begin : Version → ℕ → List ℕ
 neighbor_begin version number = codes "ip neighbor replace " ++ (neighbor_address version number ++ codes " lladdr ")
 
 abbrev pub neighbor_link : Version → ℕ → Mac → List ℕ
 neighbor_link version number mac = neighbor_begin version number ++ mac_text mac
 
--- the command that sets an address of a neighbor behind this interface
 abbrev pub neighbor_text : Version → ℕ → Mac → (interface : List ℕ) → List ℕ
 neighbor_text version number mac interface = neighbor_link version number mac ++ (codes " dev " ++ (interface ++ (codes " nud permanent" ++ 10 ∷ [])))
 
--- those that set both, where its interface is up
+-- the commands that set both addresses, where its interface is up; else a comment
 abbrev pub neighbor_behind : ℕ → Adjacency → Option (List ℕ) → List ℕ
 neighbor_behind number adjacency None = remark_text adjacency.name (codes "is behind an interface which is down")
 neighbor_behind number adjacency (Some interface) = neighbor_text Ip4 number adjacency.mac interface ++ neighbor_text Ip6 number adjacency.mac interface
@@ -124,6 +126,7 @@ neighbor_at graph number =
 
 -- ---- routes
 
+-- the beginning of a command that sets a route
 abbrev pub route_begin : Version → List ℕ
 route_begin Ip4 = codes "ip route replace "
 route_begin Ip6 = codes "ip -6 route replace "
@@ -163,6 +166,7 @@ route_text version graph prefix (targets.Via members) = route_over version graph
 route_text version graph prefix targets.Local = route_begin version ++ (codes "local " ++ (prefix ++ (codes " dev lo" ++ 10 ∷ [])))
 route_text version graph prefix targets.Drop = route_begin version ++ (codes "blackhole " ++ (prefix ++ 10 ∷ []))
 
+-- the same for a route of the table of IPv4, and of that of IPv6
 abbrev pub route4_text : Graph → Prefix × RouteTo → List ℕ
 route4_text graph route = route_text Ip4 graph (prefix_text route.0) route.1
 
@@ -171,21 +175,26 @@ route6_text graph route = route_text Ip6 graph (prefix6_text route.0) route.1
 
 -- ---- what no command says
 
+-- a comment on an edit which no command stands for
 abbrev pub remark_on : (line : ℕ) → Edit → List ℕ
 remark_on line (edits.Node name kind) = line_remark line (codes "a node")
 remark_on line (edits.Arc from slot to) = line_remark line (codes "an arc")
 remark_on line edit = []
 
+-- those on edits outside blocks
 abbrev pub edit_remarks : List EditLine → List ℕ
 edit_remarks lines = flat_map (λ (line : EditLine). remark_on line.line line.edit) lines
 
+-- the line on which a block begins
 abbrev pub block_line : Block → ℕ
 block_line (blocks.At line time edits) = line
 block_line (blocks.Process line name every count groups) = line
 
+-- a comment on each block
 abbrev pub block_remarks : List Block → List ℕ
 block_remarks all = flat_map (λ (block : Block). line_remark (block_line block) (codes "a block")) all
 
+-- on all statements of a script
 abbrev pub remarks_text : Script → List ℕ
 remarks_text script = edit_remarks script.start ++ block_remarks script.blocks
 
@@ -196,17 +205,18 @@ abbrev pub of_each : (ℕ → List ℕ) → ℕ → List ℕ
 of_each text zero = []
 of_each text (suc count) = of_each text count ++ text count
 
--- of a graph: its interfaces and its neighbors, by their numbers, and its routes
+-- the commands for the interfaces of a graph, and for its neighbors, by their numbers
 abbrev pub interfaces_text : Graph → List ℕ
 interfaces_text graph = of_each (interface_at graph) (length graph.interfaces)
 
 abbrev pub neighbors_text : Graph → List ℕ
 neighbors_text graph = of_each (neighbor_at graph) (length graph.adjacencies)
 
+-- those for all of a graph
 abbrev pub graph_text : Graph → List ℕ
 graph_text graph = interfaces_text graph ++ (neighbors_text graph ++ (flat_map (route4_text graph) graph.routes ++ flat_map (route6_text graph) graph.routes6))
 
--- of the first graph of a plan
+-- those for the first graph of a plan
 abbrev pub first_text : Planned → List ℕ
 first_text plan = option_map_or graph_text (slice_get plan.graphs 0) []
 

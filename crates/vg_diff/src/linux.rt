@@ -1,8 +1,6 @@
 //! The kernel's router of a script's start graph, as commands `ip` of iproute2 for a shell. What they can't say is a line of a comment.
-//!
 //! A neighbor has no IP address in a script, so each gets two by its number, which leave no interface: 198.18.0.1 and on, of the block for
 //! measurements of routers (RFC 2544, appendix C.2.2), and fe80::1 and on (RFC 4291, section 2.5.6).
-
 ghost use Rattle.std.specs.Prelude.{◌≡◌, ◌<◌, ◌++◌, length, flat_map, option_map, IfOk, IfSome, OnOk};
 ghost use Rattle.std.specs.List.{list_all};
 ghost use Rattle.vg_model.specs.Graph.{with_routes};
