@@ -1,5 +1,5 @@
--- For the clauses of `due_of`, `compared` and `answer`: a comparison's counts, status and text.
-use Rattle.std.proofs.Common.{◌≡◌, ◌↔◌, ◌⊎◌, ℕ, ◌+◌, List, ◌++◌, length, subst, arith, length-append}
+-- For the clauses of `due_of`, `due_with`, `due_beside` and `due_behind`: a comparison's counts, status and text, and what is compared.
+use Rattle.std.proofs.Common.{◌≡◌, ◌↔◌, ◌⊎◌, ℕ, ◌+◌, true, List, ◌++◌, length, sym, ap, ◌∙◌, subst, arith, length-append}
 use Rattle.std.proofs.lemmas.List.{length-map}
 use Rattle.std.proofs.lemmas.List.Sorted.{length_permutation}
 use Rattle.vg_match.specs.declared.diffs.Diff.{Diff}
@@ -9,7 +9,12 @@ use Rattle.vg_match.specs.Sides.{left_out, meant_numbers}
 use Rattle.vg_match.proofs.ExactLemmas.{exact}
 use Rattle.vg_match.proofs.SideLemmas.{out_or_named}
 use Rattle.vg_diff.specs.declared.lines.Findings.{Findings}
-use Rattle.vg_diff.specs.Lines.{IsText}
+use Rattle.vg_diff.specs.Answers.{IsText}
+use Rattle.vg_diff.specs.declared.input.Account.{Account}
+use Rattle.vg_diff.specs.declared.input.Input.{Input}
+use Rattle.vg_diff.specs.Accounts.{IsAccount}
+use Rattle.vg_diff.specs.Numbers.{sent_numbers}
+use Rattle.vg_diff.specs.Files.{has_packets_of}
 use Rattle.vg_diff.specs.Run.{Terms, Compared, packets_of, IsFound, AddUp, IsAnswer}
 
 -- each packet that had to come is left out or stands in the difference, and each that came
@@ -54,10 +59,26 @@ answered terms compared found status text is is_text either all =
       exactly = (λ zero. law.0 (all.0 zero), λ moved. all.1 (law.1 moved));
     }
 
--- the same for packets that are these
-pub answers_at : (terms : Terms) (wanted got wanted' got' dropped : List (List ℕ)) (status : ℕ) (text : List ℕ) → wanted ≡ wanted' → got ≡ got'
-    → IsAnswer terms (record { wanted = wanted; got = got; dropped = dropped }) status text
-    → IsAnswer terms (record { wanted = wanted'; got = got'; dropped = dropped }) status text
-answers_at terms wanted got wanted' got' dropped status text same alike is =
-    subst (λ w. IsAnswer terms (record { wanted = w; got = got'; dropped = dropped }) status text) same
-    (subst (λ g. IsAnswer terms (record { wanted = wanted; got = g; dropped = dropped }) status text) alike is)
+-- ---- what is compared
+
+-- the same for what is equal
+pub answers_at : (terms : Terms) (status : ℕ) (text : List ℕ) {one other : Compared} → one ≡ other → IsAnswer terms one status text → IsAnswer terms other status text
+answers_at terms status text same is = subst (λ (compared : Compared). IsAnswer terms compared status text) same is
+
+-- with packets and places that are equal
+module _ (one : Compared) (wanted got : List (List ℕ)) (starts : List ℕ) where
+  pub frames_are : one.wanted ≡ wanted → one.got ≡ got → one.starts ≡ starts → one ≡ record one { wanted = wanted; got = got; starts = starts }
+  frames_are same alike places =
+      ap (λ (ws : List (List ℕ)). record one { wanted = ws }) same
+      ∙ ap (λ (gs : List (List ℕ)). record one { wanted = wanted; got = gs }) alike
+      ∙ ap (λ (ss : List ℕ). record one { wanted = wanted; got = got; starts = ss }) places
+
+-- with packets that had to be dropped, and numbers of these, that are equal
+pub drops_are : (one : Compared) (dropped : List (List ℕ)) (numbers : List ℕ) → one.dropped ≡ dropped → one.numbers ≡ numbers
+    → one ≡ record one { dropped = dropped; numbers = numbers }
+drops_are one dropped numbers same alike =
+    ap (λ (ds : List (List ℕ)). record one { dropped = ds }) same ∙ ap (λ (ns : List ℕ). record one { dropped = dropped; numbers = ns }) alike
+
+-- a report has as many packets as the files, by the numbers that stand beside it
+pub fits_by : (input : Input) (account : Account) → IsAccount input account → has_packets_of account.report (sent_numbers account.report) input ≡ true
+fits_by input account is = ap (λ sent. has_packets_of account.report sent input) (sym is.sent_are) ∙ is.fits

@@ -5,7 +5,8 @@ use Rattle.std.specs.List.{AllZip}
 use Rattle.std.proofs.lemmas.List.{map-append, take_more}
 use Rattle.vg_capture.specs.declared.captures.Capture.{Capture}
 use Rattle.vg_outside.specs.Files.{Files}
-use Rattle.vg_diff.specs.Run.{texts, IsCaptureAt}
+use Rattle.vg_diff.specs.Asked.{texts}
+use Rattle.vg_diff.specs.Files.{IsCaptureAt}
 
 -- one more on both sides
 zip_push : (R : List ℕ → Capture → Type 0) (xs : List (List ℕ)) (ys : List Capture) (x : List ℕ) (y : Capture) → AllZip R xs ys → R x y → AllZip R (xs ++ x ∷ []) (ys ++ y ∷ [])

@@ -4,3 +4,8 @@ pub mod InputLemmas
 pub mod AnswerLemmas
 pub mod LineLemmas
 pub mod OrderLemmas
+pub mod NumberLemmas
+pub mod AskLemmas
+pub mod RunLemmas
+pub mod StopLemmas
+pub mod LinuxLemmas

@@ -1,6 +1,16 @@
 pub mod Lines
+pub mod Numbers
+pub mod Classes
+pub mod Answers
 pub mod Orders
+pub mod Prefixes
+pub mod Asked
+pub mod Files
+pub mod Scripts
+pub mod Linux
+pub mod Stops
 pub mod Run
+pub mod Accounts
 pub mod Texts
 pub mod Refusals
 pub mod Dues

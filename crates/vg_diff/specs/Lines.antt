@@ -4,7 +4,6 @@ use Rattle.std.specs.Borrow.{Bor}
 use Rattle.std.specs.Option.{option_map_or}
 use Rattle.std.specs.List.Sorted.{IsPermutation, IsNonDecreasingBy}
 use Rattle.vg_match.specs.declared.fields.Field.{Field}
-use Rattle.vg_match.specs.declared.diffs.Diff.{Diff}
 use Rattle.vg_match.specs.declared.frames.Layout.{Layout}
 use Rattle.vg_match.specs.Fields.{field_name, field_at, span_of, span}
 use Rattle.vg_match.specs.Frames.{layout_of}
@@ -16,9 +15,7 @@ use Rattle.vg_report.specs.declared.reports.PacketLine.{PacketLine}
 use Rattle.vg_report.specs.declared.reports.Report.{Report}
 use Rattle.vg_diff.specs.declared.lines.Change.{Change}
 use Rattle.vg_diff.specs.declared.lines.Findings.{Findings}
-use Rattle.vg_diff.specs.declared.answers.Manner.{Manner}
-use Rattle.vg_diff.specs.declared.answers.Manner.TheVariants as manners
-use Rattle.vg_diff.specs.Texts.{hex_text, line_begin, count_line}
+use Rattle.vg_diff.specs.Texts.{hex_text, line_begin}
 
 -- an element, or 0 behind the last
 abbrev pub number_at : List ℕ → ℕ → ℕ
@@ -152,30 +149,3 @@ pub record AreLines (found : Findings) (text : List ℕ) : Type 0 where
   pub wanted_are : AreInOrder found.diff.now.changed.items found.diff.now.missing.items wanted
   pub got_are : AreInOrder (map turned found.diff.now.there.items) found.diff.now.extra.items got
   pub is : text ≡ flat_map (λ (row : Row). wanted_line found row.0 row.1) wanted ++ flat_map (λ (row : Row). got_line found row.0 row.1) got
-
--- the counts alone: of what had to come, and of what came
-abbrev pub wanted_counts : Diff → List ℕ
-wanted_counts diff = count_line (codes "missing") (length diff.missing.items) ++ count_line (codes "changed") (length diff.changed.items)
-
-abbrev pub got_counts : Diff → List ℕ
-got_counts diff = count_line (codes "extra") (length diff.extra.items) ++ count_line (codes "dropped-but-there") (length diff.there.items)
-
-abbrev pub counts_text : Diff → List ℕ
-counts_text diff = wanted_counts diff ++ got_counts diff
-
--- what stands between the first line and the last three
-abbrev pub IsBody : Manner → Findings → List ℕ → Type 0
-IsBody manners.Lines found text = AreLines found text
-IsBody manners.Brief found text = text ≡ counts_text found.diff.now
-IsBody manners.Classes found text = Unit {0}
-
--- the last three lines: how many pairs came in another order, and how many packets of each side were left out
-abbrev pub last_lines : (reordered : ℕ) → ℕ × ℕ → List ℕ
-last_lines reordered noise =
-    count_line (codes "reordered") reordered ++ (codes "noise " ++ (decimal noise.0 ++ (32 ∷ (decimal noise.1 ++ (10 ∷ (codes "end" ++ 10 ∷ []))))))
-
--- the text that says what was found
-pub record IsText (manner : Manner) (found : Findings) (text : List ℕ) : Type 0 where
-  pub body : List ℕ
-  pub is_body : IsBody manner found body
-  pub is : text ≡ count_line (codes "same") (length found.diff.now.same.items) ++ (body ++ last_lines found.reordered found.noise)

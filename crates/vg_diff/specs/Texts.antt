@@ -1,10 +1,6 @@
 -- The words of what is printed.
-use Rattle.std.specs.Prelude.{ℕ, ◌/◌, ◌%◌, List, [], ◌∷◌, ◌++◌, flat_map, decimal}
-use Rattle.std.specs.Char.{digit_char}
-
--- a byte as two hexadecimal digits
-abbrev pub pair_text : ℕ → List ℕ
-pair_text byte = digit_char (byte / 16) ∷ digit_char (byte % 16) ∷ []
+use Rattle.std.specs.Prelude.{ℕ, List, [], ◌∷◌, ◌++◌, flat_map, decimal}
+pub use Rattle.vg_script.specs.Plain.{pair_text}
 
 -- bytes as hexadecimal digits, or `-` where there is none
 abbrev pub hex_text : List ℕ → List ℕ

@@ -1,6 +1,7 @@
 //! The text that says what was found.
 ghost use Rattle.std.specs.Prelude.{◌≡◌, ◌++◌, OnOk, IfOk};
-ghost use Rattle.vg_diff.specs.Lines.{AreLines, IsBody, IsText, wanted_counts, got_counts, counts_text, last_lines as last_lines_of};
+ghost use Rattle.vg_diff.specs.Answers.{IsBody, IsText, wanted_counts, got_counts, counts_text, last_lines as last_lines_of};
+ghost use Rattle.vg_diff.specs.Lines.{AreLines};
 
 use crate::classes::classes;
 use crate::lines::Findings;

@@ -1,19 +1,17 @@
 //! The packets of both sides, and how they differ.
 ghost use Rattle.std.specs.Prelude.{◌≡◌, ◌≤◌, ◌^◌, ◌++◌, [], length, map, IfOk, OnOk};
 ghost use Rattle.vg_match.specs.Keys.{compared as compared_bytes};
-ghost use Rattle.vg_match.specs.Sides.{seen};
+ghost use Rattle.vg_match.specs.Sides.{seen, frame_at as frame_in};
 ghost use Rattle.vg_match.specs.Diffs.{IsDiff};
+ghost use Rattle.vg_diff.specs.Numbers.{frames_of_numbers};
 ghost use Rattle.vg_diff.specs.Run.{packet_bytes, all_bytes};
 
+use crate::numbers::MOST_FRAMES;
 use std::alloc::{AllocError, Global};
 use std::thread::{Threads, join};
 use vg_capture::Capture;
 use vg_match::{Diff, Field, Range, Side, compare, compared_all, fronts, views};
 use vg_model::Bytes;
-use vg_report::{EndRef, Report};
-
-/// The most packets of a side.
-const MOST_FRAMES: usize = 0x1_0000_0000;
 
 // Adds the frames of a capture behind the others.
 fn put_frames<'a>(out: &mut Vec<&'a [u8]>, capture: &'a Capture) -> Result<(), AllocError>
@@ -53,46 +51,34 @@ pub fn frames_in(alloc: Global, capture: &Capture) -> Result<Vec<&[u8]>, AllocEr
     Ok(frames)
 }
 
-/// The number of the first packet of each capture but the first.
-pub fn starts_of(alloc: Global, captures: &[Capture]) -> Result<Vec<u32>, AllocError> {
-    let mut starts = Vec::new(alloc);
-    let mut count = 0u32;
-    for (at, capture) in captures.iter().enumerate() {
-        if at != 0 {
-            starts.push(count)?;
-        }
-        count = count.saturating_add(capture.packets.len() as u32);
+// The frame of this number of a capture, or none where it has no such packet.
+#[tactic(auto, using(crate::proofs::FrameLemmas::frame_there, crate::proofs::FrameLemmas::frame_past))]
+fn frame_of(capture: &Capture, number: u32) -> &[u8]
+    ensures { result.now ≡ frame_in (packet_bytes capture.now.packets) number }
+{
+    let number = number as usize;
+    if number < capture.packets.len() {
+        capture.packets.bytes(number)
+    } else {
+        &[]
     }
-    Ok(starts)
-}
-
-/// The numbers of a run's packets that were transmitted, or of those that were dropped.
-pub fn numbers_of(alloc: Global, report: &Report, were_sent: bool) -> Result<Vec<u32>, AllocError> {
-    let mut numbers = Vec::new(alloc);
-    for number in 0..report.packets.len() {
-        let is_sent = match report.packets.get(number).end {
-            EndRef::Tx { .. } => true,
-            EndRef::Dropped { .. } => false,
-        };
-        if is_sent == were_sent {
-            numbers.push(number.min(65_536) as u32)?;
-        }
-    }
-    Ok(numbers)
 }
 
 /// The frames of these numbers of a capture.
+///
+/// # Errors
+///
+/// [`AllocError`] where memory runs out.
 pub fn frames_at<'a>(
     alloc: Global,
     capture: &'a Capture,
     numbers: &[u32],
-) -> Result<Vec<&'a [u8]>, AllocError> {
-    let mut frames = Vec::new(alloc);
+) -> Result<Vec<&'a [u8]>, AllocError>
+    ensures { IfOk result (λ frames. seen frames.items ≡ frames_of_numbers (packet_bytes capture.now.packets) numbers.now) }
+{
+    let mut frames = Vec::with_capacity(alloc, numbers.len())?;
     for number in numbers {
-        let number = *number as usize;
-        if number < capture.packets.len() {
-            frames.push(capture.packets.bytes(number))?;
-        }
+        frames.push(frame_of(capture, *number))?;
     }
     Ok(frames)
 }

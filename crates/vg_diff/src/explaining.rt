@@ -23,7 +23,7 @@ fn found(status: u8) -> &'static str {
             "options first, each with its value in the next word, then TX, REPORT and 1 to 16 savefiles are wanted, or `--linux` and a script",
         3 => "a file could not be loaded: is it there, and may you read it?",
         4 => "a savefile is refused: most often it is pcapng, and `editcap -F pcap` converts it",
-        5 => "the report is none, or it is not that of TX, or of CAPTURE; or the script is refused",
+        5 => "REPORT is no report, or not that of TX or of CAPTURE; or the script is refused",
         7 => "the standard output could not be written to its end",
         _ => "the packets differ",
     }

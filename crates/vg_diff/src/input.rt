@@ -1,19 +1,26 @@
 //! What the files say.
-ghost use Rattle.std.specs.Prelude.{◌≡◌, ◌+◌, ◌++◌, ◌∷◌, [], Ok, IfOk, OnOk};
+ghost use Rattle.std.specs.Prelude.{◌≡◌, ◌+◌, ◌≤◌, ◌++◌, ◌∷◌, ◌==◌, ℕ, List, [], length, true, Ok, IfOk, IfErr, OnOk, MatchResult, option_map};
 ghost use Rattle.std.specs.List.{AllZip};
+ghost use Rattle.std.specs.Option.{option_map_or};
 ghost use Rattle.vg_outside.specs.Files.{FirstBytes};
 ghost use Rattle.vg_report.specs.Reading.{report_of};
-ghost use Rattle.vg_diff.specs.Run.{texts, IsCaptureAt, IsInput};
+ghost use Rattle.vg_capture.specs.declared.captures.Capture.{Capture as Held};
+ghost use Rattle.vg_diff.specs.Asked.{texts, ask_shown};
+ghost use Rattle.vg_diff.specs.Files.{IsCaptureAt, IsCaptureOf, IsInput, has_packets_of};
+ghost use Rattle.vg_diff.specs.Stops.{OnRefusal, IsCause, IsFirstStop, IsOfScript, IsRouterCause, faults_of, load_causes, capture_causes, named_causes, others_causes, report_causes, account_causes, input_causes};
+ghost use Rattle.vg_diff.specs.Accounts.{IsAccount};
+ghost use Rattle.vg_diff.specs.Scripts.{MakesPlan, MakesPlanAt};
 
-use crate::refusals::{Refusal, Stop};
+use crate::numbers::numbers_of;
+use crate::refusals::{Refusal, Stop, capture_stop, report_stop, script_stop};
 use crate::words::Ask;
 use std::alloc::{AllocError, Global};
-use vg_capture::{Capture, CaptureError, LARGEST_FILE, read_capture};
+use vg_capture::{Capture, LARGEST_FILE, read_capture};
 use vg_model::Bytes;
 use vg_outside::{Folder, LoadError};
 use vg_plan::Plan;
-use vg_report::{EndRef, Report, ReportCause, read_report};
-use vg_script::{LARGEST_SCRIPT, ScriptCause, ScriptError, parse_script};
+use vg_report::{Report, read_report};
+use vg_script::{LARGEST_SCRIPT, parse_script};
 
 /// The most bytes that are read of a report; a lawful one has fewer.
 pub const LARGEST_REPORT: usize = 16_777_216;
@@ -31,10 +38,21 @@ pub struct Input {
     pub others: Vec<Capture>,
 }
 
+/// The report of a run, and the numbers of the packets that it says were transmitted.
+#[derive(Drop)]
+pub struct Account {
+    /// What became of the run's packets.
+    pub report: Report,
+    /// The numbers of those that were transmitted.
+    pub sent: Vec<u32>,
+}
+
 // Loads a file of at most so many bytes, or one byte more of it where it is longer.
 fn load_file<'a, F: Folder>(folder: &mut F, name: &'a str, limit: usize) -> Result<Bytes, Stop<'a>>
     ensures bytes { IfOk result (FirstBytes (F.contents folder.old) name.now (limit + 1)) }
     ensures same { F.contents folder.new ≡ F.contents folder.old }
+    ensures later { (other : List ℕ) → F.faults folder.old other ≤ F.faults folder.new other }
+    ensures stop { IfErr result (OnRefusal (IsCause (load_causes (F.contents folder.old) (faults_of (F.faults folder.old) (F.faults folder.new)) name.now))) }
 {
     match folder.load(name, limit) {
         Ok(bytes) => Ok(bytes),
@@ -51,6 +69,8 @@ fn load_capture<'a, F: Folder>(
 ) -> Result<Capture, Stop<'a>>
     ensures capture { IfOk result (IsCaptureAt (F.contents folder.old) name.now) }
     ensures same { F.contents folder.new ≡ F.contents folder.old }
+    ensures later { (other : List ℕ) → F.faults folder.old other ≤ F.faults folder.new other }
+    ensures stop { IfErr result (OnRefusal (IsCause (capture_causes (F.contents folder.old) (faults_of (F.faults folder.old) (F.faults folder.new)) name.now))) }
 {
     let bytes = match load_file(folder, name, LARGEST_FILE) {
         Ok(bytes) => bytes,
@@ -58,21 +78,18 @@ fn load_capture<'a, F: Folder>(
     };
     match read_capture(alloc, bytes) {
         Ok(capture) => Ok(capture),
-        Err(CaptureError::Memory) => Err(Stop::Memory),
-        Err(fault) => Err(Stop::Refused(Refusal::Capture(fault))),
+        Err(fault) => Err(capture_stop(fault)),
     }
 }
 
 // Reads the text of a report.
 fn read<'a>(alloc: Global, text: &Bytes) -> Result<Report, Stop<'a>>
-    ensures { IfOk result (λ report. report_of text.now ≡ Ok report) }
+    ensures report { IfOk result (λ report. report_of text.now ≡ Ok report) }
+    ensures stop { IfErr result (OnRefusal (IsCause (report_causes text.now))) }
 {
     match read_report(alloc, text.as_slice()) {
         Ok(report) => Ok(report),
-        Err(fault) => match fault.cause {
-            ReportCause::Memory => Err(Stop::Memory),
-            _ => Err(Stop::Refused(Refusal::Report(fault))),
-        },
+        Err(fault) => Err(report_stop(fault)),
     }
 }
 
@@ -82,7 +99,10 @@ fn load_named<'a, F: Folder>(
     folder: &mut F,
     name: Option<&'a str>,
 ) -> Result<Option<Capture>, Stop<'a>>
-    ensures { F.contents folder.new ≡ F.contents folder.old }
+    ensures capture { IfOk result (IsCaptureOf (F.contents folder.old) (option_map (λ name. name.now) name.entry)) }
+    ensures same { F.contents folder.new ≡ F.contents folder.old }
+    ensures later { (other : List ℕ) → F.faults folder.old other ≤ F.faults folder.new other }
+    ensures stop { IfErr result (OnRefusal (IsCause (named_causes (F.contents folder.old) (faults_of (F.faults folder.old) (F.faults folder.new)) (option_map (λ name. name.now) name.entry)))) }
 {
     let Some(name) = name else {
         return Ok(None);
@@ -109,6 +129,8 @@ fn load_all<'a, F: Folder>(
 ) -> Result<Vec<Capture>, Stop<'a>>
     ensures captures { IfOk result (λ captures. AllZip (IsCaptureAt (F.contents folder.old)) (texts names.now) captures.items) }
     ensures same { F.contents folder.new ≡ F.contents folder.old }
+    ensures later { (other : List ℕ) → F.faults folder.old other ≤ F.faults folder.new other }
+    ensures stop { IfErr result (OnRefusal (IsCause (others_causes (F.contents folder.old) (faults_of (F.faults folder.old) (F.faults folder.new)) (texts names.now)))) }
 {
     let mut captures = Vec::new(alloc);
     for name in names {
@@ -123,28 +145,28 @@ fn load_all<'a, F: Folder>(
     Ok(captures)
 }
 
-/// How many packets a report says were transmitted.
-pub fn transmitted(report: &Report) -> usize {
-    let mut count = 0usize;
-    for number in 0..report.packets.len() {
-        if let EndRef::Tx { .. } = report.packets.get(number).end {
-            count = count.wrapping_add(1);
-        }
+// Whether a capture has so many packets, where there is one.
+fn has_as_many(capture: &Option<Capture>, packets: usize) -> bool
+    ensures { result ≡ option_map_or (λ (held : Held). length held.packets == packets) capture.now true }
+{
+    match capture {
+        Some(capture) => capture.packets.len() == packets,
+        None => true,
     }
-    count
 }
 
 // Whether a report has as many packets as there are.
-fn is_of(report: &Report, tx: &Capture, capture: &Option<Capture>) -> bool {
-    let known = match capture {
-        Some(capture) => capture.packets.len() == report.packets.len(),
-        None => true,
-    };
-    known && transmitted(report) == tx.packets.len()
+fn is_of(account: &Account, input: &Input) -> bool
+    ensures { result ≡ has_packets_of account.now.report account.now.sent.items input.now }
+{
+    has_as_many(&input.capture, account.report.packets.len())
+        && account.sent.len() == input.tx.packets.len()
 }
 
 // What the call stops with where a file behind the report stops it: with the report, where that is none.
-fn first_stop<'a>(alloc: Global, text: &Bytes, behind: Stop<'a>) -> Stop<'a> {
+fn first_stop<'a>(alloc: Global, text: &Bytes, behind: Stop<'a>) -> Stop<'a>
+    ensures { IsFirstStop text.now behind.entry result }
+{
     match read(alloc, text) {
         Ok(_) => behind,
         Err(stop) => stop,
@@ -158,8 +180,9 @@ pub fn load_input<'a, F: Folder>(
     folder: &mut F,
     ask: &Ask<'a>,
 ) -> Result<Input, Stop<'a>>
-    ensures input { IfOk result (IsInput (F.contents folder.old) ask.now.tx.now ask.now.report.now (texts ask.now.others.now)) }
+    ensures input { IfOk result (IsInput (F.contents folder.old) (ask_shown ask.now)) }
     ensures same { F.contents folder.new ≡ F.contents folder.old }
+    ensures stop { IfErr result (OnRefusal (IsCause (input_causes (F.contents folder.old) (faults_of (F.faults folder.old) (F.faults folder.new)) (ask_shown ask.now)))) }
 {
     let tx = match load_capture(alloc, folder, ask.tx) {
         Ok(tx) => tx,
@@ -186,30 +209,29 @@ pub fn load_input<'a, F: Folder>(
 }
 
 /// The report of a run whose files were loaded: its text is read, and it has as many packets as these files.
-pub fn report_in<'a>(alloc: Global, input: &Input) -> Result<Report, Stop<'a>>
-    ensures { IfOk result (λ report. report_of input.now.text ≡ Ok report) }
+pub fn account_in<'a>(alloc: Global, input: &Input) -> Result<Account, Stop<'a>>
+    ensures { MatchResult result (IsAccount input.now) (OnRefusal (IsCause (account_causes input.now))) }
 {
     let report = match read(alloc, &input.text) {
         Ok(report) => report,
         Err(stop) => return Err(stop),
     };
-    if is_of(&report, &input.tx, &input.capture) {
-        Ok(report)
+    let Ok(sent) = numbers_of(alloc, &report, true) else {
+        return Err(Stop::Memory);
+    };
+    let account = Account { report, sent };
+    if is_of(&account, input) {
+        Ok(account)
     } else {
         Err(Stop::Refused(Refusal::Packets))
     }
 }
 
-// What a script's fault stops the call with.
-fn script_stop<'a>(fault: ScriptError) -> Stop<'a> {
-    match fault.cause {
-        ScriptCause::Memory => Stop::Memory,
-        _ => Stop::Refused(Refusal::Script(fault)),
-    }
-}
-
 // The plan that a script makes.
-fn plan_of<'a>(alloc: Global, text: &[u8]) -> Result<Plan, Stop<'a>> {
+fn plan_of<'a>(alloc: Global, text: &[u8]) -> Result<Plan, Stop<'a>>
+    ensures plan { IfOk result (λ plan. MakesPlan text.now plan) }
+    ensures stop { IfErr result (OnRefusal (IsOfScript text.now)) }
+{
     let script = match parse_script(alloc, text) {
         Ok(script) => script,
         Err(fault) => return Err(script_stop(fault)),
@@ -226,11 +248,16 @@ pub fn load_plan<'a, F: Folder>(
     folder: &mut F,
     name: &'a str,
 ) -> Result<Plan, Stop<'a>>
-    ensures { F.contents folder.new ≡ F.contents folder.old }
+    ensures plan { IfOk result (λ plan. MakesPlanAt (F.contents folder.old) name.now plan) }
+    ensures same { F.contents folder.new ≡ F.contents folder.old }
+    ensures stop { IfErr result (OnRefusal (IsRouterCause (F.contents folder.old) (faults_of (F.faults folder.old) (F.faults folder.new)) name.now)) }
 {
     let text = match load_file(folder, name, LARGEST_SCRIPT) {
         Ok(text) => text,
         Err(stop) => return Err(stop),
     };
-    plan_of(alloc, text.as_slice())
+    match plan_of(alloc, text.as_slice()) {
+        Ok(plan) => Ok(plan),
+        Err(stop) => Err(stop),
+    }
 }

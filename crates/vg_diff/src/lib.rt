@@ -1,9 +1,10 @@
 //! What `vgdiff` reads, finds and prints: how the packets that another router put out differ from those of a run.
 //!
-//! In which order to read: `top`, `words` with `prefixes`, `input`, `differences`, `orders` with `flows`, `lines` with `rows`, `texts` and `classes`,
-//! `answers`; then `linux`, `refusals`, `printing`; `explaining` by itself.
+//! In which order to read: `top`, `words` with `prefixes`, `input` with `numbers`, `differences`, `orders` with `flows`, `lines` with `rows`, `texts`
+//! and `classes`, `answers`; then `linux` with `addresses`, `refusals`, `printing`; `explaining` by itself.
 #![tactic(auto)]
 
+pub mod addresses;
 pub mod answers;
 pub mod classes;
 pub mod differences;
@@ -12,6 +13,7 @@ pub mod flows;
 pub mod input;
 pub mod lines;
 pub mod linux;
+pub mod numbers;
 pub mod orders;
 pub mod prefixes;
 pub mod printing;

@@ -37,8 +37,8 @@ pub struct Findings<'a> {
     pub ignored: &'a [Field],
 }
 
-// An element, or 0 behind the last.
-fn number_at(numbers: &[u32], at: usize) -> u32
+/// An element, or 0 behind the last.
+pub fn number_at(numbers: &[u32], at: usize) -> u32
     ensures { result ≡ number_standing_at numbers.now at }
 {
     match numbers.get(at) {

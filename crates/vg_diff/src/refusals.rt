@@ -1,11 +1,12 @@
 //! Why nothing is compared.
 ghost use Rattle.std.specs.Prelude.{◌≡◌, ◌≤◌, IfOk, string_bytes};
 ghost use Rattle.vg_diff.specs.Refusals.{status_of, line_of, capture_line as line_of_capture, report_line as line_of_report, script_line as line_of_script, report_word};
+ghost use Rattle.vg_diff.specs.Stops.{capture_stop as capture_stop_of, report_stop as report_stop_of, script_stop as script_stop_of};
 
 use std::alloc::{AllocError, Global};
 use vg_capture::CaptureError;
 use vg_report::{ReportCause, ReportError};
-use vg_script::ScriptError;
+use vg_script::{ScriptCause, ScriptError};
 
 /// Why nothing is compared, with the name of the file where it was one.
 #[derive(Clone, Copy, Debug)]
@@ -14,11 +15,11 @@ pub enum Refusal<'a> {
     Usage,
     /// This file could not be loaded.
     Load(&'a str),
-    /// A savefile is none that is read here.
+    /// A savefile can't be read.
     Capture(CaptureError),
-    /// The report is none.
+    /// The text of REPORT is no report.
     Report(ReportError),
-    /// The script is not one that makes a graph.
+    /// The script can't be read, or one of its edits can't be made.
     Script(ScriptError),
     /// The report has another number of packets than the capture, or than were transmitted.
     Packets,
@@ -31,6 +32,36 @@ pub enum Stop<'a> {
     Memory,
     /// The comparison is refused.
     Refused(Refusal<'a>),
+}
+
+/// What a savefile's fault stops the call with.
+pub fn capture_stop<'a>(fault: CaptureError) -> Stop<'a>
+    ensures { result ≡ capture_stop_of fault }
+{
+    match fault {
+        CaptureError::Memory => Stop::Memory,
+        _ => Stop::Refused(Refusal::Capture(fault)),
+    }
+}
+
+/// What a report's fault stops the call with.
+pub fn report_stop<'a>(fault: ReportError) -> Stop<'a>
+    ensures { result ≡ report_stop_of fault }
+{
+    match fault.cause {
+        ReportCause::Memory => Stop::Memory,
+        _ => Stop::Refused(Refusal::Report(fault)),
+    }
+}
+
+/// What a script's fault stops the call with.
+pub fn script_stop<'a>(fault: ScriptError) -> Stop<'a>
+    ensures { result ≡ script_stop_of fault }
+{
+    match fault.cause {
+        ScriptCause::Memory => Stop::Memory,
+        _ => Stop::Refused(Refusal::Script(fault)),
+    }
 }
 
 // The word for a report's fault.

@@ -20,7 +20,8 @@ pub fn put_decimal(out: &mut Vec<u8>, number: u64) -> Result<(), AllocError>
     put(out, Buffer::new().format(number).as_bytes())
 }
 
-fn hex_digit(value: u8) -> u8
+/// A hexadecimal digit.
+pub fn hex_digit(value: u8) -> u8
     requires { value < 16 }
     ensures { result ≡ digit_char value }
 {
@@ -31,39 +32,11 @@ fn hex_digit(value: u8) -> u8
     }
 }
 
-// Appends a byte as two hexadecimal digits.
-fn put_pair(out: &mut Vec<u8>, byte: u8) -> Result<(), AllocError>
+/// Appends a byte as two hexadecimal digits.
+pub fn put_pair(out: &mut Vec<u8>, byte: u8) -> Result<(), AllocError>
     ensures { OnOk result (out.new.items ≡ out.old.items ++ pair_text byte) }
 {
     put(out, &[hex_digit(byte / 16), hex_digit(byte % 16)])
-}
-
-/// Appends the pairs of these bytes, parted by `:`.
-pub fn put_pairs(out: &mut Vec<u8>, bytes: &[u8]) -> Result<(), AllocError> {
-    let Some((first, others)) = bytes.split_first() else {
-        return Ok(());
-    };
-    put_pair(out, *first)?;
-    for byte in others {
-        put(out, b":")?;
-        put_pair(out, *byte)?;
-    }
-    Ok(())
-}
-
-/// Appends a number in hexadecimal digits, without zeros in front.
-pub fn put_hex_number(out: &mut Vec<u8>, number: u16) -> Result<(), AllocError> {
-    let high = (number / 256) as u8;
-    let low = (number % 256) as u8;
-    if number < 16 {
-        return put(out, &[hex_digit(low)]);
-    }
-    if number >= 4096 {
-        put_pair(out, high)?;
-    } else if number >= 256 {
-        put(out, &[hex_digit(high)])?;
-    }
-    put_pair(out, low)
 }
 
 /// Appends bytes as hexadecimal digits, or `-` where there is none.

@@ -1,29 +1,34 @@
 //! The top call.
-ghost use Rattle.std.specs.Prelude.{◌≡◌, ◌≢◌, ◌↔◌, ◌⊎◌, ℕ, ◌+◌, ◌≤◌, List, [], length, IfOk};
+ghost use Rattle.std.specs.Prelude.{◌≡◌, ◌≢◌, ◌↔◌, ◌⊎◌, ℕ, ◌+◌, ◌≤◌, List, [], Some, None, length, IfOk, IfErr, MatchResult};
 ghost use Rattle.vg_match.specs.Diffs.{AllMatch, IsDiff};
 ghost use Rattle.vg_match.specs.Sides.{seen};
 ghost use Rattle.vg_outside.specs.Files.{Rose};
-ghost use Rattle.vg_report.specs.Reading.{report_of};
-ghost use Rattle.vg_diff.specs.Dues.{IsFoundStatus, IsDueStatus};
+ghost use Rattle.vg_diff.specs.declared.refusals.Refusal.{Refusal as Refused};
+ghost use Rattle.vg_diff.specs.Accounts.{IsAccount};
+ghost use Rattle.vg_diff.specs.Asked.{ask_shown};
+ghost use Rattle.vg_diff.specs.Dues.{IsDueFor};
 ghost use Rattle.vg_diff.specs.Matches.{AreMatches};
+ghost use Rattle.vg_diff.specs.Numbers.{starts_of as starts_of_captures, sent_numbers, dropped_numbers, frames_of_numbers};
 ghost use Rattle.vg_diff.specs.Orders.{AreFlowHashes};
-ghost use Rattle.vg_diff.specs.Run.{packet_bytes, all_bytes, terms_of, IsAnswer, AnswersIn, Answers};
+ghost use Rattle.vg_diff.specs.Refusals.{status_of as status_of_refusal, line_of};
+ghost use Rattle.vg_diff.specs.Run.{packet_bytes, all_bytes, terms_of, called, IsAnswer, AnswersIn, Answers, IsFoundBy, IsRouterOf, IsRefused, IsDue, Appends, AppendsFront};
+ghost use Rattle.vg_diff.specs.Stops.{OnRefusal, IsCause, IsRouterCause, faults_of, account_causes, input_causes};
 
-use crate::answers::{Manner, text_of};
-use crate::differences::{differences, frames_at, frames_in, frames_of, numbers_of, starts_of};
-use crate::input::{Input, load_input, load_plan, report_in};
+use crate::answers::text_of;
+use crate::differences::{differences, frames_at, frames_in, frames_of};
+use crate::input::{Account, Input, account_in, load_input, load_plan};
 use crate::lines::Findings;
 use crate::linux::commands;
+use crate::numbers::{numbers_of, starts_of};
 use crate::orders::{flow_hashes, reordered};
 use crate::printing::print;
 use crate::refusals::{Refusal, Stop};
-use crate::words::{Ask, WordsError, asked, script_of_router};
+use crate::words::{Ask, asked, script_of_router};
 use std::alloc::{AllocError, Global};
 use std::thread::{Threads, join};
 use vg_capture::Capture;
 use vg_match::{Diff, Field, Range};
 use vg_outside::{Folder, Sink};
-use vg_report::Report;
 
 /// What is due at the end: the exit status, and the text to print.
 #[derive(Drop)]
@@ -138,27 +143,6 @@ struct Drops<'a> {
     numbers: &'a [u32],
 }
 
-// The report of a run, and the numbers of the packets that it says were transmitted.
-#[derive(Drop)]
-struct Account {
-    report: Report,
-    sent: Vec<u32>,
-}
-
-// The report of a run whose files were loaded.
-fn account_in<'a>(alloc: Global, input: &Input) -> Result<Account, Stop<'a>>
-    ensures { IfOk result (λ account. report_of input.now.text ≡ Ok account.report) }
-{
-    let report = match report_in(alloc, input) {
-        Ok(report) => report,
-        Err(stop) => return Err(stop),
-    };
-    match numbers_of(alloc, &report, true) {
-        Ok(sent) => Ok(Account { report, sent }),
-        Err(_) => Err(Stop::Memory),
-    }
-}
-
 // What is due for what is found of frames and of those that were dropped.
 fn due_of(
     alloc: Global,
@@ -168,9 +152,16 @@ fn due_of(
     matches: &Matches,
     account: &Account,
 ) -> Result<Due, AllocError>
-    requires { AreMatches ask.now.ignored.items ask.now.only.items frames.now.wanted.now frames.now.got.now frames.now.starts.now (seen drops.now.frames.now) matches.now }
-    ensures { IfOk result (λ due. IsAnswer (terms_of ask.now)
-        (record { wanted = seen frames.now.wanted.now; got = seen frames.now.got.now; dropped = seen drops.now.frames.now }) due.status due.text.items) }
+    requires matches { AreMatches ask.now.ignored.items ask.now.only.items frames.now.wanted.now frames.now.got.now frames.now.starts.now (seen drops.now.frames.now) matches.now }
+    requires sent { account.now.sent.items ≡ sent_numbers account.now.report }
+    ensures { IfOk result (λ due. IsAnswer (terms_of (ask_shown ask.now)) (record {
+      wanted = seen frames.now.wanted.now;
+      got = seen frames.now.got.now;
+      starts = frames.now.starts.now;
+      report = account.now.report;
+      dropped = seen drops.now.frames.now;
+      numbers = drops.now.numbers.now;
+    }) due.status due.text.items) }
 {
     let diff = &matches.diff;
     let wanted_noise = wanted_left_out(diff, frames.wanted.len());
@@ -205,7 +196,10 @@ fn due_beside<'a, R: Threads + Sync>(
 ) -> Result<Due, Stop<'a>>
     requires wanted { seen frames.now.wanted.now ≡ packet_bytes input.now.tx.packets }
     requires got { seen frames.now.got.now ≡ all_bytes input.now.others.items }
-    ensures { IfOk result (AnswersIn (terms_of ask.now) input.now) }
+    requires starts { frames.now.starts.now ≡ starts_of_captures input.now.others.items }
+    requires capture { input.now.capture ≡ None }
+    ensures answers { IfOk result (λ due. AnswersIn (terms_of (ask_shown ask.now)) input.now due.status due.text.items) }
+    ensures stop { IfErr result (OnRefusal (IsCause (account_causes input.now))) }
 {
     let (wanted, got, starts) = (frames.wanted, frames.got, frames.starts);
     let ignored = ask.ignored.as_slice();
@@ -216,7 +210,7 @@ fn due_beside<'a, R: Threads + Sync>(
             ensures { IfOk result (AreMatches ignored.entry.now only.entry.now wanted.entry.now got.entry.now starts.entry.now []) }
         { matches_alone(rt, alloc, wanted, got, starts, ignored, only) },
         ||
-            ensures { IfOk result (λ account. report_of input.entry.now.text ≡ Ok account.report) }
+            ensures { MatchResult result (IsAccount input.entry.now) (OnRefusal (IsCause (account_causes input.entry.now))) }
         { account_in(alloc, input) },
     );
     let account = match account {
@@ -245,8 +239,15 @@ fn due_with<R: Threads>(
     account: &Account,
     capture: &Capture,
 ) -> Result<Due, AllocError>
-    ensures { IfOk result (λ due. (dropped : List (List ℕ)) × IsAnswer (terms_of ask.now)
-        (record { wanted = seen frames.now.wanted.now; got = seen frames.now.got.now; dropped = dropped }) due.status due.text.items) }
+    requires { account.now.sent.items ≡ sent_numbers account.now.report }
+    ensures { IfOk result (λ due. IsAnswer (terms_of (ask_shown ask.now)) (record {
+      wanted = seen frames.now.wanted.now;
+      got = seen frames.now.got.now;
+      starts = frames.now.starts.now;
+      report = account.now.report;
+      dropped = frames_of_numbers (packet_bytes capture.now.packets) (dropped_numbers account.now.report);
+      numbers = dropped_numbers account.now.report;
+    }) due.status due.text.items) }
 {
     let numbers = numbers_of(alloc, &account.report, false)?;
     let known = frames_at(alloc, capture, numbers.as_slice())?;
@@ -277,7 +278,10 @@ fn due_behind<'a, R: Threads>(
 ) -> Result<Due, Stop<'a>>
     requires wanted { seen frames.now.wanted.now ≡ packet_bytes input.now.tx.packets }
     requires got { seen frames.now.got.now ≡ all_bytes input.now.others.items }
-    ensures { IfOk result (AnswersIn (terms_of ask.now) input.now) }
+    requires starts { frames.now.starts.now ≡ starts_of_captures input.now.others.items }
+    requires capture { input.now.capture ≡ Some capture.now }
+    ensures answers { IfOk result (λ due. AnswersIn (terms_of (ask_shown ask.now)) input.now due.status due.text.items) }
+    ensures stop { IfErr result (OnRefusal (IsCause (account_causes input.now))) }
 {
     let account = match account_in(alloc, input) {
         Ok(account) => account,
@@ -296,7 +300,8 @@ fn compared<'a, R: Threads + Sync>(
     ask: &Ask<'a>,
     input: &Input,
 ) -> Result<Due, Stop<'a>>
-    ensures { IfOk result (AnswersIn (terms_of ask.now) input.now) }
+    ensures answers { IfOk result (λ due. AnswersIn (terms_of (ask_shown ask.now)) input.now due.status due.text.items) }
+    ensures stop { IfErr result (OnRefusal (IsCause (account_causes input.now))) }
 {
     let Ok(wanted) = frames_in(alloc, &input.tx) else {
         return Err(Stop::Memory);
@@ -325,7 +330,8 @@ pub fn answer<'a, F: Folder, R: Threads + Sync>(
     ask: &Ask<'a>,
     folder: &mut F,
 ) -> Result<Due, Stop<'a>>
-    ensures answer { IfOk result (λ due. Answers (F.contents folder.old) ask.now due) }
+    ensures answer { IfOk result (λ due. Answers (F.contents folder.old) (ask_shown ask.now) due.status due.text.items) }
+    ensures stop { IfErr result (OnRefusal (IsCause (input_causes (F.contents folder.old) (faults_of (F.faults folder.old) (F.faults folder.new)) (ask_shown ask.now)))) }
     ensures same { F.contents folder.new ≡ F.contents folder.old }
 {
     let input = match load_input(alloc, folder, ask) {
@@ -337,7 +343,8 @@ pub fn answer<'a, F: Folder, R: Threads + Sync>(
 
 // What is due where the kernel's router of a script is asked for.
 fn router<'a, F: Folder>(alloc: Global, script: &'a str, folder: &mut F) -> Result<Due, Stop<'a>>
-    ensures status { IfOk result (λ due. due.status ≡ 0) }
+    ensures router { IfOk result (λ due. IsRouterOf (F.contents folder.old) script.now due.status due.text.items) }
+    ensures stop { IfErr result (OnRefusal (IsRouterCause (F.contents folder.old) (faults_of (F.faults folder.old) (F.faults folder.new)) script.now)) }
     ensures same { F.contents folder.new ≡ F.contents folder.old }
 {
     let plan = match load_plan(alloc, folder, script) {
@@ -357,23 +364,25 @@ fn found<'a, F: Folder, R: Threads + Sync>(
     words: &'a [&'a str],
     folder: &mut F,
 ) -> Result<Due, Stop<'a>>
-    ensures status { IfOk result (λ due. IsFoundStatus due.status) }
+    ensures found { IfOk result (λ due. IsFoundBy (called words.entry.now (F.contents folder.old) (F.faults folder.old) (F.faults folder.new)) due.status due.text.items) }
+    ensures stop { IfErr result (OnRefusal (IsRefused (called words.entry.now (F.contents folder.old) (F.faults folder.old) (F.faults folder.new)))) }
     ensures same { F.contents folder.new ≡ F.contents folder.old }
 {
     if let Some(script) = script_of_router(words) {
         return router(alloc, script, folder);
     }
-    match asked(alloc, words) {
-        Ok(ask) => answer(rt, alloc, &ask, folder),
-        Err(WordsError::Memory) => Err(Stop::Memory),
-        Err(WordsError::Faulty) => Err(Stop::Refused(Refusal::Usage)),
-    }
+    let Ok(ask) = asked(alloc, words) else {
+        return Err(Stop::Memory);
+    };
+    let Some(ask) = ask else {
+        return Err(Stop::Refused(Refusal::Usage));
+    };
+    answer(rt, alloc, &ask, folder)
 }
 
 // What is due for what was found, or for a refusal; nothing where memory ran out.
 fn due_for(alloc: Global, found: Result<Due, Stop<'_>>) -> Option<Due>
-    requires { IfOk found (λ due. IsFoundStatus due.status) }
-    ensures { IsDueStatus result }
+    ensures { IsDueFor found.entry result }
 {
     match found {
         Ok(due) => Some(due),
@@ -390,9 +399,9 @@ fn due_for(alloc: Global, found: Result<Due, Stop<'_>>) -> Option<Due>
 
 /// Holds the packets that another router put out against those of a run, over a folder and a sink, and answers the exit status.
 ///
-/// 0: all packets match, up to what is ignored, and how they do was printed; or the commands for the kernel's router were. 9: they don't, and how they differ was printed. 1: memory ran
-/// out, and nothing was printed. 2 to 5: nothing is compared, and one line is printed that says why. 7: the sink failed in the middle of what
-/// was to be printed.
+/// 0: all packets match, up to what is ignored, and how they do was printed; or the commands for the kernel's router were. 9: they don't, and
+/// how they differ was printed. 1: memory ran out, and nothing was printed. 2 to 5: nothing is compared, and one line is printed that says why.
+/// 7: the sink failed in the middle of what was to be printed.
 pub fn diff_run<F: Folder, O: Sink, R: Threads + Sync>(
     rt: &R,
     alloc: Global,
@@ -400,14 +409,29 @@ pub fn diff_run<F: Folder, O: Sink, R: Threads + Sync>(
     folder: &mut F,
     out: &mut O,
 ) -> u8
+    // 0 and 9: what the words ask for was printed: how the packets differ; or, at 0, the commands for the kernel's router.
+    ensures found { (result ≡ 0) ⊎ (result ≡ 9) → (text : List ℕ)
+        × IsFoundBy (called words.now (F.contents folder.old) (F.faults folder.old) (F.faults folder.new)) result text
+        × Appends (O.written out.old) (O.written out.new) text }
+
     // 1: memory ran out.
     ensures memory { result ≡ 1 → O.written out.new ≡ O.written out.old }
 
-    // 7: the sink failed.
-    ensures printing { result ≡ 7 → Rose (O.faults out.old) (O.faults out.new) }
+    // 2 to 5: nothing is compared, for what the words or the files are, and the line of the refusal was printed.
+    ensures refused { 2 ≤ result → result ≤ 5 → (refusal : Refused) × (result ≡ status_of_refusal refusal)
+        × IsRefused (called words.now (F.contents folder.old) (F.faults folder.old) (F.faults folder.new)) refusal
+        × Appends (O.written out.old) (O.written out.new) (line_of refusal) }
+
+    // 7: the sink failed, after a proper front of what was due.
+    ensures printing { result ≡ 7 → Rose (O.faults out.old) (O.faults out.new) × (status : ℕ) × (text : List ℕ)
+        × IsDue (called words.now (F.contents folder.old) (F.faults folder.old) (F.faults folder.new)) status text
+        × AppendsFront (O.written out.old) (O.written out.new) text }
 
     // At any other status no call of the sink failed.
     ensures quiet { result ≢ 7 → O.faults out.new ≡ O.faults out.old }
+
+    // There is no other status.
+    ensures statuses { (result ≤ 5) ⊎ ((result ≡ 7) ⊎ (result ≡ 9)) }
 
     // No file changes.
     ensures same { F.contents folder.new ≡ F.contents folder.old }

@@ -1,8 +1,9 @@
 //! Calls of the comparison over folders in memory. Frames and savefiles are written out by hand.
+use std::num::NonZeroUsize;
 use std::process::Abort;
 use std::thread::Threads;
 use vg_diff::diff_run;
-use vg_outside::{SureFolder, SureSink};
+use vg_outside::{MemorySink, SureFolder, SureSink};
 
 /// A savefile's header: microseconds, little-endian, Ethernet.
 const HEADER: [u8; 24] = [
@@ -21,6 +22,13 @@ const SECOND: [u8; 45] = [
     2, 0, 0, 0, 0, 0xb, 2, 0xfe, 0, 0, 0, 1, 8, 0, // frame
     0x45, 0, 0, 31, 0, 2, 0, 0, 63, 17, 0x67, 0xca, 10, 0, 0, 1, 10, 0, 0, 2, // IPv4
     0, 1, 0, 2, 0, 11, 0, 0, b'x', b'y', b'z',
+];
+
+/// The same as FIRST with identification 5 and a third payload.
+const THIRD: [u8; 45] = [
+    2, 0, 0, 0, 0, 0xb, 2, 0xfe, 0, 0, 0, 1, 8, 0, // frame
+    0x45, 0, 0, 31, 0, 5, 0, 0, 63, 17, 0x67, 0xc7, 10, 0, 0, 1, 10, 0, 0, 2, // IPv4
+    0, 1, 0, 2, 0, 11, 0, 0, b'p', b'q', b'r',
 ];
 
 /// A datagram from 10.0.201.228 to 211.0.0.152, port 62596 to 2: of another flow than FIRST, whose hash is that of FIRST's.
@@ -92,6 +100,20 @@ trace 0 pg-input ethernet-input
 end
 ";
 
+/// The report of a run that transmitted its three packets.
+const REPORT_OF_THREE: &[u8] = b"vgd report 1
+workers 1
+buffers 4096
+generations 1
+packets 3
+interface 0 pg0 tx 3
+node 0 interface-tx 3
+packet 0 0:0 tx pg0
+packet 1 0:0 tx pg0
+packet 2 0:0 tx pg0
+end
+";
+
 /// Adds a record at so many seconds.
 fn put_record(rt: &impl Abort, file: &mut Vec<u8>, seconds: u8, frame: &[u8]) {
     let len = frame.len().min(255) as u8;
@@ -120,15 +142,56 @@ fn changed<R: Abort + AllocGlobal>(rt: &R, frame: &[u8], place: usize, byte: u8)
     frame
 }
 
-/// A frame padded to 60 bytes.
-fn padded<R: Abort + AllocGlobal>(rt: &R, frame: &[u8]) -> Vec<u8> {
+/// A frame padded to so many bytes.
+fn padded<R: Abort + AllocGlobal>(rt: &R, frame: &[u8], len: usize) -> Vec<u8> {
     let mut frame = frame.to_vec(rt.alloc()).expect(rt, "memory");
-    for more in 0..60 {
-        if frame.len() < 60 {
+    for more in 0..len {
+        if frame.len() < len {
             frame.push(7).expect(rt, "memory");
         }
     }
     frame
+}
+
+/// Adds a file to a folder.
+fn put_file(rt: &impl Abort, folder: &mut SureFolder, name: &str, bytes: &[u8]) {
+    folder.add(name, bytes).expect(rt, "memory");
+}
+
+/// A folder with a capture `c`, a savefile `t` of the frames that had to come, the report `r`, and two savefiles `o` and `p` of those that did.
+fn folder_of<R: Abort + AllocGlobal>(
+    rt: &R,
+    report: &[u8],
+    wanted: &[&[u8]],
+    first: &[&[u8]],
+    second: &[&[u8]],
+) -> SureFolder {
+    let mut folder = SureFolder::new(rt.alloc());
+    let capture = savefile(rt, &[&FIRST, &ASTRAY, &SECOND]);
+    put_file(rt, &mut folder, "c", capture.as_slice());
+    put_file(rt, &mut folder, "t", savefile(rt, wanted).as_slice());
+    put_file(rt, &mut folder, "r", report);
+    put_file(rt, &mut folder, "o", savefile(rt, first).as_slice());
+    put_file(rt, &mut folder, "p", savefile(rt, second).as_slice());
+    folder
+}
+
+/// The status and the printed text of these words over a folder.
+fn call<R: Abort + AllocGlobal + Threads + Sync>(
+    rt: &R,
+    words: &[&str],
+    folder: &mut SureFolder,
+) -> (u8, Vec<u8>) {
+    let alloc = rt.alloc();
+    let mut out = SureSink::new(alloc);
+    let status = diff_run(rt, alloc, words, folder, &mut out);
+    (status, out.written().to_vec(alloc).expect(rt, "memory"))
+}
+
+/// Asks that a call came to this status and printed this text.
+fn expect(rt: &impl Abort, found: &(u8, Vec<u8>), status: u8, text: &[u8]) {
+    assert_eq!(rt; found.0, status);
+    assert!(rt; found.1.as_slice() == text);
 }
 
 /// The status and the printed text, where these frames had to come and those did, in one savefile.
@@ -138,25 +201,12 @@ fn compare_with<R: Abort + AllocGlobal + Threads + Sync>(
     wanted: &[&[u8]],
     frames: &[&[u8]],
 ) -> (u8, Vec<u8>) {
-    let alloc = rt.alloc();
-    let mut folder = SureFolder::new(alloc);
-    folder
-        .add("c", savefile(rt, &[&FIRST, &ASTRAY, &SECOND]).as_slice())
-        .expect(rt, "memory");
-    folder
-        .add("t", savefile(rt, wanted).as_slice())
-        .expect(rt, "memory");
-    folder.add("r", REPORT).expect(rt, "memory");
-    folder
-        .add("o", savefile(rt, frames).as_slice())
-        .expect(rt, "memory");
-    let mut words = options.to_vec(alloc).expect(rt, "memory");
+    let mut folder = folder_of(rt, REPORT, wanted, frames, &[]);
+    let mut words = options.to_vec(rt.alloc()).expect(rt, "memory");
     words
         .extend_from_slice(&["t", "r", "o"])
         .expect(rt, "memory");
-    let mut out = SureSink::new(alloc);
-    let status = diff_run(rt, alloc, words.as_slice(), &mut folder, &mut out);
-    (status, out.written().to_vec(alloc).expect(rt, "memory"))
+    call(rt, words.as_slice(), &mut folder)
 }
 
 /// The same where FIRST and SECOND had to come.
@@ -166,6 +216,25 @@ fn compare<R: Abort + AllocGlobal + Threads + Sync>(
     frames: &[&[u8]],
 ) -> (u8, Vec<u8>) {
     compare_with(rt, options, &[&FIRST, &SECOND], frames)
+}
+
+/// The same where these came in two savefiles.
+fn compare_two<R: Abort + AllocGlobal + Threads + Sync>(
+    rt: &R,
+    first: &[&[u8]],
+    second: &[&[u8]],
+) -> (u8, Vec<u8>) {
+    let mut folder = folder_of(rt, REPORT, &[&FIRST, &SECOND], first, second);
+    call(rt, &["t", "r", "o", "p"], &mut folder)
+}
+
+/// The same where FIRST, SECOND and THIRD had to come.
+fn compare_three<R: Abort + AllocGlobal + Threads + Sync>(
+    rt: &R,
+    frames: &[&[u8]],
+) -> (u8, Vec<u8>) {
+    let mut folder = folder_of(rt, REPORT_OF_THREE, &[&FIRST, &SECOND, &THIRD], frames, &[]);
+    call(rt, &["t", "r", "o"], &mut folder)
 }
 
 #[test]
@@ -179,6 +248,34 @@ fn equal_sets_match_in_any_order(rt: HostRuntime) {
 }
 
 #[test]
+fn each_behind_one_that_had_to_come_later_is_reordered(rt: HostRuntime) {
+    let found = compare_three(&rt, &[&THIRD, &FIRST, &SECOND]);
+    expect(&rt, &found, 0, b"same 3\nreordered 2\nnoise 0 0\nend\n");
+    let found = compare_three(&rt, &[&SECOND, &FIRST, &THIRD]);
+    expect(&rt, &found, 0, b"same 3\nreordered 1\nnoise 0 0\nend\n");
+}
+
+#[test]
+fn savefiles_are_numbered_one_behind_the_other(rt: HostRuntime) {
+    let found = compare_two(&rt, &[&FIRST], &[&SECOND, &ASTRAY]);
+    expect(
+        &rt,
+        &found,
+        9,
+        b"same 2\nextra 2 1:2\nreordered 0\nnoise 0 0\nend\n",
+    );
+    let found = compare_two(&rt, &[&SECOND], &[&FIRST]);
+    expect(&rt, &found, 0, b"same 2\nreordered 0\nnoise 0 0\nend\n");
+    let found = compare_two(&rt, &[], &[&FIRST, &SECOND, &ASTRAY]);
+    expect(
+        &rt,
+        &found,
+        9,
+        b"same 2\nextra 2 1:3\nreordered 0\nnoise 0 0\nend\n",
+    );
+}
+
+#[test]
 fn flows_of_one_hash_are_two(rt: HostRuntime) {
     let (status, text) = compare_with(&rt, &[], &[&FIRST, &TWIN], &[&TWIN, &FIRST]);
     assert_eq!(rt; status, 0);
@@ -187,10 +284,17 @@ fn flows_of_one_hash_are_two(rt: HostRuntime) {
 
 #[test]
 fn padding_and_noise_do_not_count(rt: HostRuntime) {
-    let first = padded(&rt, &FIRST);
+    let first = padded(&rt, &FIRST, 60);
     let (status, text) = compare(&rt, &[], &[&ARP, first.as_slice(), &SECOND]);
     assert_eq!(rt; status, 0);
     assert!(rt; text.as_slice() == b"same 2\nreordered 0\nnoise 0 1\nend\n".as_slice());
+}
+
+#[test]
+fn padding_of_ip6_does_not_count(rt: HostRuntime) {
+    let six = padded(&rt, &SIX, 70);
+    let found = compare_with(&rt, &[], &[&SIX, &FIRST], &[six.as_slice(), &FIRST]);
+    expect(&rt, &found, 0, b"same 2\nreordered 0\nnoise 0 0\nend\n");
 }
 
 #[test]
@@ -217,6 +321,93 @@ fn classes_have_an_example_each(rt: HostRuntime) {
     assert!(rt;
         text.as_slice()
             == b"same 0\nclass missing 1 0:1\nclass changed ttl 1 0:1\nclass extra 1 0:2\nreordered 0\nnoise 0 0\nend\n".as_slice()
+    );
+}
+
+#[test]
+fn a_class_is_counted(rt: HostRuntime) {
+    let first = changed(&rt, &FIRST, 22, 64);
+    let second = changed(&rt, &SECOND, 22, 64);
+    let found = compare(
+        &rt,
+        &["--classes"],
+        &[&ARP, first.as_slice(), second.as_slice()],
+    );
+    expect(
+        &rt,
+        &found,
+        9,
+        b"same 0\nclass changed ttl 2 0:2\nreordered 0\nnoise 0 1\nend\n",
+    );
+    let found = compare(&rt, &["--classes"], &[]);
+    expect(
+        &rt,
+        &found,
+        9,
+        b"same 0\nclass missing 2 0:1\nreordered 0\nnoise 0 0\nend\n",
+    );
+}
+
+#[test]
+fn a_change_outside_of_all_fields_has_a_class(rt: HostRuntime) {
+    let other = changed(&rt, &FIRST, 15, 4);
+    let frames: &[&[u8]] = &[&SECOND, other.as_slice()];
+    let found = compare(&rt, &["--classes"], frames);
+    expect(
+        &rt,
+        &found,
+        9,
+        b"same 1\nclass changed byte 1 0:2\nreordered 0\nnoise 0 0\nend\n",
+    );
+    let found = compare(&rt, &[], frames);
+    expect(
+        &rt,
+        &found,
+        9,
+        b"same 1\nchanged 0 15 00 04\nreordered 0\nnoise 0 0\nend\n",
+    );
+}
+
+#[test]
+fn an_error_has_a_class(rt: HostRuntime) {
+    let sent = changed(&rt, &ASTRAY, 22, 63);
+    let options = &["--capture", "c", "--classes"];
+    let found = compare(&rt, options, &[&FIRST, sent.as_slice(), &SECOND]);
+    expect(
+        &rt,
+        &found,
+        9,
+        b"same 2\nclass dropped-but-there no-route 1 0:2\nreordered 0\nnoise 0 0\nend\n",
+    );
+}
+
+#[test]
+fn an_identification_may_be_ignored(rt: HostRuntime) {
+    let other = changed(&rt, &FIRST, 19, 9);
+    let frames: &[&[u8]] = &[other.as_slice(), &SECOND];
+    let found = compare(&rt, &["--ignore", "identification"], frames);
+    expect(&rt, &found, 0, b"same 2\nreordered 0\nnoise 0 0\nend\n");
+    let found = compare(&rt, &[], frames);
+    expect(
+        &rt,
+        &found,
+        9,
+        b"same 1\nmissing 0 pg-input ethernet-input\nextra 0 0:1\nreordered 0\nnoise 0 0\nend\n",
+    );
+}
+
+#[test]
+fn a_source_address_may_be_ignored(rt: HostRuntime) {
+    let other = changed(&rt, &FIRST, 6, 0xa);
+    let frames: &[&[u8]] = &[other.as_slice(), &SECOND];
+    let found = compare(&rt, &["--ignore", "source-mac"], frames);
+    expect(&rt, &found, 0, b"same 2\nreordered 0\nnoise 0 0\nend\n");
+    let found = compare(&rt, &[], frames);
+    expect(
+        &rt,
+        &found,
+        9,
+        b"same 1\nchanged 0 source-mac 02fe00000001 0afe00000001\nreordered 0\nnoise 0 0\nend\n",
     );
 }
 
@@ -332,42 +523,42 @@ fn refusals_have_their_status_and_their_line(rt: HostRuntime) {
     }
 }
 
-/// A script with a neighbor, a route over it, one that drops, and an edit which the kernel doesn't know.
-const SCRIPT: &[u8] = b"interface pg1 mac 02:fe:00:00:00:01 mtu 1400 down
-adjacency near interface pg0 dst 02:00:00:00:00:0a
-adjacency far interface pg1 dst 02:00:00:00:00:0b
-route 10.0.0.0/8 via near
-route 10.1.0.0/16 via near,far
-route 10.2.0.0/16 via far
-route 10.3.0.0/16 drop
-route6 2001:db8::/32 local
-node more kind ip4-input
-";
+/// A savefile and a report, and 17 savefiles.
+const SEVENTEEN: [&str; 19] = [
+    "t", "r", "o", "p", "p", "p", "p", "p", "p", "p", "p", "p", "p", "p", "p", "p", "p", "p", "p",
+];
 
-/// The commands for it.
-const COMMANDS: &[u8] = b"# sysctl -w net.ipv4.ip_forward=1 net.ipv6.conf.all.forwarding=1
-ip link set dev pg0 address 02:fe:00:00:00:00 mtu 9000 up
-# pg0 takes frames to every address; the kernel's router takes those to its own
-ip link set dev pg1 address 02:fe:00:00:00:01 mtu 1400 down
-# pg1 takes frames to every address; the kernel's router takes those to its own
-ip neighbor replace 198.18.0.1 lladdr 02:00:00:00:00:0a dev pg0 nud permanent
-ip neighbor replace fe80::1 lladdr 02:00:00:00:00:0a dev pg0 nud permanent
-# far is behind an interface which is down
-ip route replace 10.0.0.0/8 via 198.18.0.1 dev pg0 onlink
-ip route replace 10.1.0.0/16 nexthop via 198.18.0.1 dev pg0 onlink
-ip route replace blackhole 10.2.0.0/16
-ip route replace blackhole 10.3.0.0/16
-ip -6 route replace local 2001:db8:0:0:0:0:0:0/32 dev lo
-# line 9 of the script has a node, which ip can't say
-";
+/// Asks that words are refused.
+fn expect_usage<R: Abort + AllocGlobal + Threads + Sync>(
+    rt: &R,
+    words: &[&str],
+    folder: &mut SureFolder,
+) {
+    let found = call(rt, words, folder);
+    expect(rt, &found, 2, b"usage\n");
+}
 
 #[test]
-fn the_kernels_router_is_set_up_by_commands(rt: HostRuntime) {
+fn faulty_words_ask_for_nothing(rt: HostRuntime) {
+    let mut folder = folder_of(&rt, REPORT, &[&FIRST, &SECOND], &[&FIRST, &SECOND], &[]);
+    let found = call(&rt, &SEVENTEEN[..18], &mut folder);
+    expect(&rt, &found, 0, b"same 2\nreordered 0\nnoise 0 0\nend\n");
+    expect_usage(&rt, &SEVENTEEN, &mut folder);
+    expect_usage(&rt, &["t", "r"], &mut folder);
+    expect_usage(&rt, &["--linux"], &mut folder);
+    let twice = ["--capture", "c", "--capture", "c", "t", "r", "o"];
+    expect_usage(&rt, &twice, &mut folder);
+    expect_usage(&rt, &["--brief", "--classes", "t", "r", "o"], &mut folder);
+    expect_usage(&rt, &["--ignore", "payload", "t", "r", "o"], &mut folder);
+}
+
+#[test]
+fn a_sink_that_fails_has_a_front(rt: HostRuntime) {
     let alloc = rt.alloc();
-    let mut folder = SureFolder::new(alloc);
-    folder.add("s", SCRIPT).expect(&rt, "memory");
-    let mut out = SureSink::new(alloc);
-    let status = diff_run(&rt, alloc, &["--linux", "s"], &mut folder, &mut out);
-    assert_eq!(rt; status, 0);
-    assert!(rt; out.written() == COMMANDS);
+    let mut folder = folder_of(&rt, REPORT, &[&FIRST, &SECOND], &[&FIRST, &SECOND], &[]);
+    let failing = Vec::from_slice(alloc, &[1]).expect(&rt, "memory");
+    let mut out = MemorySink::new(alloc, failing, NonZeroUsize::new(4));
+    let status = diff_run(&rt, alloc, &["t", "r", "o"], &mut folder, &mut out);
+    assert_eq!(rt; status, 7);
+    assert!(rt; out.written() == b"same".as_slice());
 }

@@ -1,3 +1,4 @@
+-- For `frames_of`: its loop.
 use Rattle.std.proofs.Common.{◌≡◌, take}
 use Rattle.vg_match.specs.Sides.{seen}
 use Rattle.vg_diff.specs.Run.{all_bytes}

@@ -1,3 +1,4 @@
+-- For `put_frames`: its clause.
 use Rattle.std.proofs.Common.{arith}
 use Rattle.vg_match.specs.Sides.{seen}
 use Rattle.vg_diff.proofs.FrameLemmas.{frames_more}

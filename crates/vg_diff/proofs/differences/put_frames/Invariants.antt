@@ -1,3 +1,4 @@
+-- For `put_frames`: its loop.
 use Rattle.std.proofs.Common.{◌≡◌, ◌++◌, take}
 use Rattle.vg_match.specs.Sides.{seen}
 use Rattle.vg_diff.specs.Run.{packet_bytes}

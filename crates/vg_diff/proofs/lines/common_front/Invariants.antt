@@ -1,3 +1,4 @@
+-- For `common_front`: its loop.
 use Rattle.std.proofs.Common.{◌≡◌, ◌+◌, drop}
 use Rattle.vg_diff.specs.Lines.{common_front}
 use Rattle.vg_diff.proofs.lines.common_front.Given as goal

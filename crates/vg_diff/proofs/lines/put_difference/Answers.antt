@@ -1,3 +1,4 @@
+-- For `put_difference`: its clause.
 use Rattle.std.proofs.Common.{◌++◌, ap, ◌∙◌}
 use Rattle.std.proofs.lemmas.Result.{on_ok_weaker}
 use Rattle.vg_diff.specs.Lines.{frame_at, change_of, change_text, difference_text}

@@ -1,3 +1,4 @@
+-- For `put_names`: its loop.
 use Rattle.std.proofs.Common.{◌≡◌, ◌++◌, take}
 use Rattle.vg_diff.specs.Lines.{names_text}
 use Rattle.vg_diff.proofs.lines.put_names.Given as goal

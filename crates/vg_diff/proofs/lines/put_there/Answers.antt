@@ -1,3 +1,4 @@
+-- For `put_there`: its clause.
 use Rattle.std.proofs.Common.{◌∷◌, []}
 use Rattle.std.specs.Prelude.{codes, slice_get}
 use Rattle.std.proofs.lemmas.Result.{on_ok_weaker}

@@ -1,3 +1,4 @@
+-- For `print`: its clause.
 use Rattle.std.proofs.Common.{◌<◌, length, subst, sym, ◌∙◌, rules}
 use Rattle.vg_diff.specs.Run.{AppendsFront}
 use Rattle.vg_diff.proofs.PrintLemmas.{print_piece, print_front, always_on_err}

@@ -1,3 +1,4 @@
+-- For `print`: its loop.
 use Rattle.std.proofs.Common.{◌≡◌, length}
 use Rattle.vg_diff.proofs.PrintLemmas.{IsPrinting}
 use Rattle.vg_diff.proofs.printing.print.Given as goal

@@ -1,3 +1,4 @@
+-- For `in_order`: its clause.
 use Rattle.std.proofs.Common.{subst, ap, ◌∙◌, ◌++◌, map, rules}
 use Rattle.std.specs.List.Sorted.{IsPermutation}
 use Rattle.std.proofs.lemmas.List.Sorted.{IsNonDecreasingBy-from_sort_by_key}

@@ -1,3 +1,4 @@
+-- For `put_got_rows`: its loop.
 use Rattle.std.proofs.Common.{◌≡◌, ◌++◌, take, flat_map}
 use Rattle.vg_diff.specs.Lines.{Row, got_line}
 use Rattle.vg_diff.proofs.rows.put_got_rows.Given as goal

@@ -1,3 +1,4 @@
+-- For `put_wanted_rows`: its loop.
 use Rattle.std.proofs.Common.{◌≡◌, ◌++◌, take, flat_map}
 use Rattle.vg_diff.specs.Lines.{Row, wanted_line}
 use Rattle.vg_diff.proofs.rows.put_wanted_rows.Given as goal

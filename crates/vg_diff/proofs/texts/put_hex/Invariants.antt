@@ -1,3 +1,4 @@
+-- For `put_hex`: its loop.
 use Rattle.std.proofs.Common.{◌≡◌, ◌++◌, take, flat_map}
 use Rattle.vg_diff.specs.Texts.{pair_text}
 use Rattle.vg_diff.proofs.texts.put_hex.Given as goal

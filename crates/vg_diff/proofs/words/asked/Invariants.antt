@@ -1,8 +1,11 @@
-use Rattle.std.proofs.Common.{◌-◌, ◌≤◌, length}
+-- `asked`, what the words ask for: the loop over the options.
+use Rattle.std.proofs.Common.{◌≡◌, ◌-◌, ◌≤◌, length, drop}
+use Rattle.vg_diff.specs.Asked.{texts, said_shown, asked_behind, asked}
 use Rattle.vg_diff.proofs.words.asked.Given as goal
 
-abbrev pub invariant-loop-at : goal.invariant-loop-at
-invariant-loop-at l = l.at ≤ length l.words
+-- the words that are left ask behind the options so far for what all words ask for
+abbrev pub invariant-loop-alloc : goal.invariant-loop-alloc
+invariant-loop-alloc l = (l.at ≤ length l.words) × (asked_behind (said_shown l.options) (texts (drop l.at l.words)) ≡ asked (texts l.words))
 
-abbrev pub decreases-loop-at : goal.decreases-loop-at
-decreases-loop-at l = length l.words - l.at
+abbrev pub decreases-loop-alloc : goal.decreases-loop-alloc
+decreases-loop-alloc l = length l.words - l.at

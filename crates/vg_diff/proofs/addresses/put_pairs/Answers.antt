@@ -1,0 +1,8 @@
+-- For `put_pairs`: its clause.
+use Rattle.std.proofs.Common.{append_assoc, arith}
+use Rattle.std.proofs.lemmas.Grind.{common_steps}
+use Rattle.vg_script.proofs.PrintLemmas.{pairs-cons}
+use Rattle.vg_diff.proofs.addresses.put_pairs.Goals as goal
+
+pub returns : goal.returns
+returns c = grind (arith, common_steps, pairs-cons, append_assoc)
