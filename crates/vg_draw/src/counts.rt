@@ -1,7 +1,8 @@
 //! What a report counted, by the names of nodes and interfaces.
 ghost use Rattle.std.specs.Prelude.{◌≡◌, ◌+◌, ◌<◌, ◌≤◌, ◌^◌, ◌++◌, ℕ, List, Some, bytes_eq, count_by, length, option_map, slice_get, IfSome, OnOk, if◌then◌else◌};
 ghost use Rattle.std.specs.List.{position_from};
-ghost use Rattle.vg_draw.specs.Drawing.{counted_in, less as less_of, passed_on as passed_on_of, passed_count as passed_count_of, carried as carried_of, arc_count as arc_count_of, sent_count as sent_count_of, packets_of as packets_by, is_unvisited as is_unvisited_by, began_in, began_text, counted_text, node_counts};
+ghost use Rattle.vg_draw.specs.Drawing.{counted_in, less as less_of, passed_on as passed_on_of, passed_count as passed_count_of, carried as carried_of, arc_count as arc_count_of};
+ghost use Rattle.vg_draw.specs.Drawing.{sent_count as sent_count_of, packets_of as packets_by, is_unvisited as is_unvisited_by, began_in, began_text, counted_text, node_counts};
 
 use crate::words::{put, put_count, put_decimal};
 use std::alloc::AllocError;
