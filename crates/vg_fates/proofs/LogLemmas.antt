@@ -1,10 +1,10 @@
--- For the clauses of `FateLog::push`, `are_in_order`, `put_in_place` and `merged`, and of `FateList::{with, joined, is_in_order, sort}`:
+-- For the clauses of `FateLog::push`, `are_in_order` and `put_in_place`, and of `FateList::{with, joined, is_in_order, sort}`:
 -- Fates as workers log them.
 use Rattle.std.proofs.Common.{◌≡◌, ℕ, ◌+◌, ◌-◌, ◌<◌, ◌≤◌, ◌^◌, All, List, [], ◌∷◌, ◌++◌, length, map, take, get_or, refl, sym, ap, subst, ◌∙◌, arith, length-append}
 use Rattle.std.specs.List.{AllByRecursion}
-use Rattle.std.specs.List.Sorted.{IsPermutation, IsNonDecreasingBy}
-use Rattle.std.proofs.lemmas.List.{append_assoc, take_more, map_push, length-map, get_or_append_left, get_or-append-add, get_or-map}
-use Rattle.std.proofs.lemmas.List.Sorted.{All-permutation, IsNonDecreasingBy-push, IsPermutation-map, IsPermutation-trans, IsPermutation-middle, IsPermutation-append_comm, IsPermutation-append_left}
+use Rattle.std.specs.List.Sorted.{IsNonDecreasingBy}
+use Rattle.std.proofs.lemmas.List.{take_more, map_push, length-map, get_or_append_left, get_or-append-add, get_or-map}
+use Rattle.std.proofs.lemmas.List.Sorted.{IsNonDecreasingBy-push}
 use Rattle.std.proofs.lemmas.List.Elements.{All-tail, All-push, All-append, All-weaker, All-map, recursion_from_All}
 use Rattle.vg_model.specs.declared.fates.Fate.{Fate}
 use Rattle.vg_fates.specs.declared.logs.LogEntry.{LogEntry}
@@ -80,44 +80,17 @@ logged_with one two all places entries more places_are all_is logged other =
     (All-map (IsLogged (length all)) (moved_behind places) more
     (All-weaker (IsLogged (length two)) (λ e. IsLogged (length all) (moved_behind places e)) (λ e h. logged_behind places (length two) (length all) (omega (arith, size, places_are)) e h) more other))
 
--- the entries of both, however they are merged
-pub merged_fates : (one two all : List Fate) (places : ℕ) (entries more all_entries : List LogEntry) (fates other : List Fate) → places ≡ length one → all ≡ one ++ two
-    → IsPermutation (entries ++ map (moved_behind places) more) all_entries → AreLogged one entries → fates_in one entries ≡ fates → fates_in two more ≡ other → IsPermutation (fates ++ other) (fates_in all all_entries)
-merged_fates one two all places entries more all_entries fates other places_are all_is same logged fates_are other_is =
-    subst (λ xs. IsPermutation xs (fates_in all all_entries))
-    (ap (λ os. fates_in os (entries ++ map (moved_behind places) more)) all_is ∙ fates_with one two places entries more places_are logged
-    ∙ ap (λ xs. xs ++ fates_in two more) fates_are ∙ ap (λ xs. fates ++ xs) other_is)
-    (IsPermutation-map (fate_in all) (entries ++ map (moved_behind places) more) all_entries same)
+-- the entries of both, one list behind the other
+pub followed_fates : (one two all : List Fate) (places : ℕ) (entries more all_entries : List LogEntry) (fates other : List Fate) → places ≡ length one → all ≡ one ++ two
+    → all_entries ≡ entries ++ map (moved_behind places) more → AreLogged one entries → fates_in one entries ≡ fates → fates_in two more ≡ other → fates_in all all_entries ≡ fates ++ other
+followed_fates one two all places entries more all_entries fates other places_are all_is entries_are logged fates_are other_is =
+    ap (fates_in all) entries_are ∙ ap (λ os. fates_in os (entries ++ map (moved_behind places) more)) all_is ∙ fates_with one two places entries more places_are logged
+    ∙ ap (λ xs. xs ++ fates_in two more) fates_are ∙ ap (λ xs. fates ++ xs) other_is
 
-pub merged_logged : (one two all : List Fate) (places : ℕ) (entries more all_entries : List LogEntry) → places ≡ length one → all ≡ one ++ two
-    → IsPermutation (entries ++ map (moved_behind places) more) all_entries → AreLogged one entries → AreLogged two more → AreLogged all all_entries
-merged_logged one two all places entries more all_entries places_are all_is same logged other =
-    All-permutation (IsLogged (length all)) (entries ++ map (moved_behind places) more) all_entries same (logged_with one two all places entries more places_are all_is logged other)
-
--- one more entry of the first list, and one more of the second
-pub first_merged : {X : Type 0} (xs ys zs all : List X) (i j next_i next_j : ℕ) (d : X) → next_i ≡ i + 1 → next_j ≡ j → all ≡ zs ++ get_or xs i d ∷ [] → i < length xs → IsPermutation (take i xs ++ take j ys) zs
-    → IsPermutation (take next_i xs ++ take next_j ys) all
-first_merged xs ys zs all i j next_i next_j d first second pushed inside same =
-    let x = get_or xs i d in
-    let front = take i xs in
-    let back = take j ys in
-    let taken = ap (λ k. take k xs ++ take next_j ys) first ∙ ap (λ k. take (i + 1) xs ++ take k ys) second ∙ ap (λ more. more ++ back) (take_more xs i d inside) ∙ append_assoc front (x ∷ []) back in
-    subst (λ them. IsPermutation them all) (sym taken) (subst (λ them. IsPermutation (front ++ x ∷ back) them) (sym pushed)
-    (IsPermutation-trans (front ++ x ∷ back) (x ∷ (front ++ back)) (zs ++ x ∷ []) (IsPermutation-middle front x back)
-    (IsPermutation-trans (x ∷ (front ++ back)) ((front ++ back) ++ x ∷ []) (zs ++ x ∷ []) (IsPermutation-append_comm (x ∷ []) (front ++ back)) (IsPermutation-append_left (x ∷ []) (front ++ back) zs same))))
-
-pub second_merged : {X : Type 0} (xs ys zs all : List X) (i j next_i next_j : ℕ) (d : X) → next_i ≡ i → next_j ≡ j + 1 → all ≡ zs ++ get_or ys j d ∷ [] → j < length ys → IsPermutation (take i xs ++ take j ys) zs
-    → IsPermutation (take next_i xs ++ take next_j ys) all
-second_merged xs ys zs all i j next_i next_j d first second pushed inside same =
-    let y = get_or ys j d in
-    let front = take i xs in
-    let taken = ap (λ k. take k xs ++ take next_j ys) first ∙ ap (λ k. front ++ take k ys) second ∙ ap (λ more. front ++ more) (take_more ys j d inside) ∙ sym (append_assoc front (take j ys) (y ∷ [])) in
-    subst (λ them. IsPermutation them all) (sym taken) (subst (λ them. IsPermutation ((front ++ take j ys) ++ y ∷ []) them) (sym pushed) (IsPermutation-append_left (y ∷ []) (front ++ take j ys) zs same))
-
--- one more list
-pub list_merged : {X : Type 0} (all one two merged rest : List X) → IsPermutation all (one ++ (two ++ rest)) → IsPermutation (one ++ two) merged → IsPermutation all (merged ++ rest)
-list_merged all one two merged rest same is =
-    IsPermutation-trans all (one ++ (two ++ rest)) (merged ++ rest) same (subst (λ xs. IsPermutation xs (merged ++ rest)) (append_assoc one two rest) (IsPermutation-append_left rest (one ++ two) merged is))
+pub followed_logged : (one two all : List Fate) (places : ℕ) (entries more all_entries : List LogEntry) → places ≡ length one → all ≡ one ++ two
+    → all_entries ≡ entries ++ map (moved_behind places) more → AreLogged one entries → AreLogged two more → AreLogged all all_entries
+followed_logged one two all places entries more all_entries places_are all_is entries_are logged other =
+    subst (AreLogged all) (sym entries_are) (logged_with one two all places entries more places_are all_is logged other)
 
 can_move : (places count : ℕ) → places + count < 2 ^ 32 → (e : LogEntry) → IsLogged count e → CanMove places e
 can_move places count few (Plain worker end number generation) logged = tt

@@ -7,7 +7,7 @@ ghost use Rattle.vg_model.specs.declared.fates.Fate.{Fate};
 ghost use Rattle.vg_fates.specs.Logs.{fate_in, fates_in, IsLogged, AreLogged, CanMove, moved_behind};
 ghost use Rattle.vg_fates.specs.Seen.{fate_seen};
 
-use std::alloc::{AllocError, Global};
+use std::alloc::Global;
 use std::marker::Model;
 use vg_model::{End, Fate, Leg, Legs, Memory};
 
@@ -168,18 +168,6 @@ fn number_of(others: &[Fate], entry: LogEntry) -> u32
     }
 }
 
-// The number of the entry at a place, and 2^32 where there is none: no packet has this number.
-#[inline]
-fn number_at(others: &[Fate], entries: &[LogEntry], place: usize) -> u64
-    ensures some { place < length entries.now → result < 2 ^ 32 }
-    ensures none { length entries.now ≤ place → result ≡ 2 ^ 32 }
-{
-    match entries.get(place) {
-        Some(entry) => u64::from(number_of(others, *entry)),
-        None => 1 << 32,
-    }
-}
-
 // Whether the entries stand in the order of their numbers.
 fn are_in_order(entries: &[LogEntry], others: &[Fate]) -> bool
     ensures { OnTrue result (IsNonDecreasingBy (λ entry. (fate_in others.now entry).number) entries.now) }
@@ -305,36 +293,6 @@ fn all_moved(mut entries: Vec<LogEntry>, places: u32) -> Vec<LogEntry>
     entries
 }
 
-// The entries of two lists of one log, each time the one with the smaller number next: lists in the order of their numbers come to
-// one that has it, and of others each entry comes near its place.
-fn merged(
-    alloc: Global,
-    entries: &[LogEntry],
-    more: &[LogEntry],
-    others: &[Fate],
-) -> Result<Vec<LogEntry>, AllocError>
-    ensures { IfOk result (λ all. IsPermutation (entries.now ++ more.now) all.items) }
-{
-    let count = entries.len() + more.len();
-    let mut all = Vec::with_capacity(alloc, count)?;
-    let mut first = 0;
-    let mut second = 0;
-    let mut first_number = number_at(others, entries, first);
-    let mut second_number = number_at(others, more, second);
-    for _place in 0..count {
-        if first_number <= second_number {
-            all.push_reserved(entries[first]);
-            first += 1;
-            first_number = number_at(others, entries, first);
-        } else {
-            all.push_reserved(more[second]);
-            second += 1;
-            second_number = number_at(others, more, second);
-        }
-    }
-    Ok(all)
-}
-
 impl FateList {
     /// No fates.
     pub fn new(alloc: Global) -> FateList
@@ -363,26 +321,26 @@ impl FateList {
         Ok(fates)
     }
 
-    // The fates of all these lists, each near its place in the order of their numbers.
+    // The fates of all these lists, one list behind the other.
     fn joined(alloc: Global, lists: Vec<FateList>) -> Result<FateList, Memory>
-        ensures { IfOk result (λ fates. IsPermutation (flat_map (λ (list : List Fate). list) lists.items) fates) }
+        ensures { IfOk result (λ fates. fates ≡ flat_map (λ (list : List Fate). list) lists.items) }
     {
         let mut lists = lists.into_iter();
         let Some(mut fates) = lists.next() else {
             return Ok(FateList::new(alloc));
         };
         for list in lists {
-            fates = fates.with(alloc, list)?;
+            fates = fates.with(list)?;
         }
         Ok(fates)
     }
 
-    // Its fates and those of another list, merged by their numbers.
-    fn with(self, alloc: Global, other: FateList) -> Result<FateList, Memory>
-        ensures { IfOk result (λ fates. IsPermutation (self ++ other) fates) }
+    // Its fates, and behind them those of another list.
+    fn with(self, other: FateList) -> Result<FateList, Memory>
+        ensures { IfOk result (λ fates. fates ≡ self ++ other) }
     {
         let FateList {
-            entries,
+            mut entries,
             mut others,
         } = self;
         let FateList {
@@ -396,13 +354,8 @@ impl FateList {
             return Err(Memory);
         }
         others.append(&mut more_others)?;
-        let more = all_moved(more, places);
-        let entries = merged(
-            alloc,
-            entries.as_slice(),
-            more.as_slice(),
-            others.as_slice(),
-        )?;
+        let mut more = all_moved(more, places);
+        entries.append(&mut more)?;
         Ok(FateList { entries, others })
     }
 

@@ -1,5 +1,6 @@
 pub mod LineLemmas
 pub mod DigitLemmas
+pub mod LayLemmas
 pub mod TextExamples
 pub mod LawfulExamples
 pub mod SplitLemmas

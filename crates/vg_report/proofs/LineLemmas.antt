@@ -1,15 +1,13 @@
 -- For the clauses of the functions of `writing` that append words and lines, up to `put_report`:
 -- Lines and words in a row.
-use Rattle.std.proofs.Common.{◌≡◌, ℕ, ◌+◌, ◌<◌, ◌≤◌, List, [], ◌∷◌, ◌++◌, length, length-append, take, drop, get_or, refl, sym, ap, ◌∙◌, append-nil, append_assoc, add-zero, zero-add, suc, length-take-le, arith}
-use Rattle.std.proofs.lemmas.List.{take_more, take_all, take_at, take-append-le, take-append-drop, get_or-map}
-use Rattle.std.proofs.lemmas.Option.{unwrap_or-slice_get}
+use Rattle.std.proofs.Common.{◌≡◌, ℕ, ◌+◌, ◌<◌, List, [], ◌∷◌, ◌++◌, length, take, get_or, refl, sym, ap, ◌∙◌, append-nil, append_assoc, add-zero, zero-add, suc, length-take-le, arith}
+use Rattle.std.proofs.lemmas.List.{take_more, take_all, take-append-le}
 use Rattle.std.proofs.lemmas.Fmt.{decimal_digit}
 use Rattle.std.proofs.lemmas.Grind.{flat_map-append}
 use Rattle.std.specs.Prelude.{flat_map, map, codes, decimal}
 use Rattle.std.specs.List.{join_with_byte}
 use Rattle.vg_model.specs.declared.fates.Leg.{Leg}
-use Rattle.vg_report.specs.Text.{Line, line_text, further, numbered, first_line, count_line, head_lines, leg_text, legs_word, sent_end}
-use Rattle.vg_report.specs.Named.{name_at}
+use Rattle.vg_report.specs.Text.{Line, line_text, further, numbered, first_line, count_line, head_lines, leg_text, legs_word}
 use Rattle.vg_report.specs.declared.reports.Report.{Report}
 
 -- pieces joined by a byte are the first, and each other behind the byte
@@ -39,21 +37,6 @@ packet_steps before number legs congested end =
     ∙ ap (λ r. before ++ (codes "packet " ++ ((number ++ (32 ∷ legs ++ r)) ++ 10 ∷ []))) (sym (flat_map-append (λ word. 32 ∷ word) congested end))
     ∙ ap (λ r. before ++ r) (sym (line_text-cons (codes "packet") (number ∷ legs ∷ (congested ++ end))))
 
--- the end that stands ready for an interface
-pub ready_end : (interfaces ends : List (List ℕ)) (i : ℕ) (end : List ℕ) → ends ≡ map sent_end interfaces → i < length interfaces → end ≡ get_or ends i end
-    → end ≡ sent_end (name_at interfaces i)
-ready_end interfaces ends i end ready within is =
-    is
-    ∙ (ap (λ es. get_or es i end) ready
-    ∙ (get_or-map sent_end interfaces i [] end within ∙ ap sent_end (sym (unwrap_or-slice_get interfaces i []))))
-
--- a text behind another, of which what is behind its first bytes is cut off
-pub cut_at : (before text : List ℕ) (n : ℕ) → n ≤ length text → take (length before + n) (before ++ text) ≡ before ++ take n text
-cut_at before text n within =
-    ap (take (length before + n)) (ap (λ l. before ++ l) (sym (take-append-drop n text)) ∙ sym (append_assoc before (take n text) (drop n text)))
-    ∙ take_at (before ++ take n text) (drop n text) (length before + n)
-    (length-append before (take n text) ∙ ap (λ k. length before + k) (length-take-le n text within))
-
 -- the first elements, as many as there are in front
 pub take_front : {X : Type 0} (n : ℕ) (xs ys : List X) → n ≡ length xs → take n (xs ++ ys) ≡ xs
 take_front n xs ys all = take-append-le n xs ys (omega (arith, all)) ∙ take_all n xs (omega (arith, all))
@@ -66,13 +49,6 @@ front_steps before number legs = append_assoc (before ++ codes "packet ") number
 pub leg_text-digits : (leg : Leg) → leg.worker < 10 → leg.generation < 10 → leg_text leg ≡ (48 + leg.worker) ∷ 58 ∷ (48 + leg.generation) ∷ []
 leg_text-digits leg worker generation =
     ap (λ r. r ++ 58 ∷ decimal leg.generation) (decimal_digit leg.worker worker) ∙ ap (λ r. (48 + leg.worker) ∷ 58 ∷ r) (decimal_digit leg.generation generation)
-
--- a number and a leg of short digits, behind `packet`
-pub short_front : (n : ℕ) (leg : Leg) (digits : List ℕ) → leg.worker < 10 → leg.generation < 10 → decimal n ≡ digits
-    → codes "packet " ++ (digits ++ 32 ∷ (48 + leg.worker) ∷ 58 ∷ (48 + leg.generation) ∷ []) ≡ codes "packet " ++ (decimal n ++ 32 ∷ leg_text leg)
-short_front n leg digits worker generation is =
-    ap (λ ds. codes "packet " ++ (ds ++ 32 ∷ (48 + leg.worker) ∷ 58 ∷ (48 + leg.generation) ∷ [])) (sym is)
-    ∙ ap (λ r. codes "packet " ++ (decimal n ++ 32 ∷ r)) (sym (leg_text-digits leg worker generation))
 
 -- the legs of a packet are the first, and each other behind a comma
 pub legs_word-cons : (leg : Leg) (legs : List Leg) → legs_word (leg ∷ legs) ≡ leg_text leg ++ flat_map (λ l. 44 ∷ leg_text l) legs

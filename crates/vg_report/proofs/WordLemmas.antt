@@ -1,6 +1,7 @@
 -- For the clauses of `begins_as_decimal`, `is_decimal`, `value_of`, `number` and `Parts::name`:
 -- What words mean, in the steps in which they are read.
-use Rattle.std.proofs.Common.{◌≡◌, ℕ, ◌+◌, ◌-◌, ◌*◌, ◌^◌, ◌<◌, ◌≤◌, Bool, true, false, cond, not, ◌&&◌, ◌||◌, ltb, leb, eqb, List, length, get_or, take, take_all, refl, sym, ap, subst, ◌∙◌, arith, true≢false, ltb-true, lt-ltb, le-leb, leb-true, eq-eqb, ne_eqb, rules}
+use Rattle.std.proofs.Common.{◌≡◌, ℕ, ◌+◌, ◌-◌, ◌*◌, ◌^◌, ◌<◌, ◌≤◌, Bool, true, false, cond, not, ◌&&◌, ◌||◌, ltb, leb, eqb, List, length, get_or, take, take_all}
+use Rattle.std.proofs.Common.{refl, sym, ap, subst, ◌∙◌, arith, true≢false, ltb-true, lt-ltb, le-leb, leb-true, eq-eqb, ne_eqb, rules}
 use Rattle.std.proofs.lemmas.Bool.{and_parts, and_from, and_right, lt-leb}
 use Rattle.std.specs.Prelude.{Option, Some, None, is_some, IfSome, ◌↔◌}
 use Rattle.std.specs.Char.{is_ascii_digit, digit_value}

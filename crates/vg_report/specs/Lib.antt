@@ -11,3 +11,4 @@ pub mod SoFar
 pub mod Answers
 pub mod Named
 pub mod Seen
+pub mod Ready

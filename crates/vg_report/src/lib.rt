@@ -1,13 +1,14 @@
 //! The report of a run as text: the pool's length at the end, the counts of interfaces, nodes and errors,
 //! each packet's fate, and the traces. `specs/Text` says which text, `specs/Lawful` which reports may be.
 //!
-//! In which order to read: `reports` with `lists`, `pieces`, `writing`; then `kinds`, `words` with `parts`, `lines`, `reading` with `errors`; then
+//! In which order to read: `reports` with `lists`, `pieces`, `laying`, `writing`; then `kinds`, `words` with `parts`, `lines`, `reading` with `errors`; then
 //! `laws`.
 #![tactic(auto)]
 
 pub mod errors;
 mod kinds;
 pub mod laws;
+mod laying;
 mod lines;
 pub mod lists;
 mod parts;

@@ -262,9 +262,13 @@ fn is_refused(fate: FateRef<'_>) -> bool
     }
 }
 
-// What became of a packet with this fate, by the names of interfaces and nodes.
+/// What became of a packet with this fate, by the names of interfaces and nodes.
 #[inline]
-fn line_of<'a>(interfaces: &'a [Name], nodes: &'a [Name], fate: FateRef<'a>) -> LineRef<'a>
+pub(crate) fn line_of<'a>(
+    interfaces: &'a [Name],
+    nodes: &'a [Name],
+    fate: FateRef<'a>,
+) -> LineRef<'a>
     requires { IsNamed interfaces.now nodes.now (fate_seen fate).end }
     ensures { line_seen result ≡ line_by interfaces.now nodes.now (fate_seen fate.entry) }
 {

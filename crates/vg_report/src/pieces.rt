@@ -1,14 +1,13 @@
-//! Short texts that are appended again and again.
-ghost use Rattle.std.specs.Prelude.{◌≡◌, ◌≤◌, ◌++◌, OnOk, length};
+//! Short texts that are laid into a list again and again.
+ghost use Rattle.std.specs.Prelude.{◌≡◌, ◌+◌, ◌≤◌, ◌++◌, length, take};
 
-use std::alloc::AllocError;
 use std::marker::Model;
 
 // How many bytes a piece has room for.
-const ROOM: usize = 40;
+pub(crate) const ROOM: usize = 40;
 
-/// A text of at most 40 bytes. It is appended with all the room that it stands in, and what is behind it is cut off again: so many bytes
-/// are copied by a few instructions, where the text alone would take a call.
+/// A text of at most 40 bytes. It is laid into a list with all the room that it stands in, and what is laid next stands over what is behind
+/// it: so many bytes are copied by a few instructions, where the text alone would take a call.
 #[derive(Drop)]
 pub(crate) struct Piece {
     room: [u8; ROOM],
@@ -39,14 +38,24 @@ impl Piece {
         }
     }
 
-    /// Appends the text.
-    #[inline]
-    pub(crate) fn put(&self, out: &mut Vec<u8>) -> Result<(), AllocError>
-        ensures { OnOk result (out.new.items ≡ out.old.items ++ self.now) }
+    /// Puts more text behind.
+    pub(crate) fn add(&mut self, text: &[u8])
+        requires { length self.old + length text.now ≤ 40 }
+        ensures { self.new ≡ self.old ++ text.now }
     {
-        let end = out.len() + self.len;
-        out.extend_from_slice(&self.room)?;
-        out.truncate(end);
-        Ok(())
+        let end = self.len + text.len();
+        self.room[self.len..end].copy_from_slice(text);
+        self.len = end;
+    }
+
+    /// Lays the text into a list, from this place on, and answers where it ends. What stood behind it, as far as the room reaches, is gone.
+    #[inline]
+    pub(crate) fn lay(&self, list: &mut [u8], at: usize) -> usize
+        requires { at + 40 ≤ length list.old }
+        ensures end { result ≤ at + 40 }
+        ensures laid { take result list.new ≡ take at list.old ++ self.now }
+    {
+        list[at..at + ROOM].copy_from_slice(&self.room);
+        at + self.len
     }
 }

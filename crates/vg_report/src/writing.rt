@@ -1,18 +1,20 @@
 //! Writing the text of a report. Each function appends to one growing buffer; where memory runs out it stops.
-ghost use Rattle.std.specs.Prelude.{◌≡◌, ◌++◌, [], ◌∷◌, ◌<◌, codes, decimal, flat_map, map, OnOk, IfOk};
+ghost use Rattle.std.specs.Prelude.{◌≡◌, ◌++◌, [], ◌∷◌, ◌<◌, codes, decimal, ◌+◌, ◌≤◌, flat_map, length, map, take, OnOk, IfOk, IfSome};
 ghost use Rattle.vg_fates.specs.Seen.{fate_seen};
 ghost use Rattle.vg_report.specs.Text.{line_text, numbered, count_line, head_lines, interface_line, node_line, error_line, leg_text, legs_word, further, congested_words, end_words, sent_end as sent_end_of, packet_line, trace_line, text};
 ghost use Rattle.vg_report.specs.Lawful.{IsLawful};
-ghost use Rattle.vg_report.specs.Named.{lines_of, line_by, end_by, AreNamed, IsNamed};
+ghost use Rattle.vg_report.specs.Named.{lines_of, line_by, AreNamed, IsNamed};
+ghost use Rattle.vg_report.specs.Ready.{IsReady};
 ghost use Rattle.vg_report.specs.Seen.{line_seen, end_seen};
 
-use crate::lists::{NamedFates, Names, PacketLines, named};
-use crate::pieces::Piece;
+use crate::laying::{DroppedEnd, Front, LINE_ROOM, lay_line, short_of};
+use crate::lists::{NamedFates, Names, PacketLines, line_of};
+use crate::pieces::{Piece, ROOM};
 use crate::reports::{EndRef, LineRef, Report};
 use itoa::Buffer;
 use std::alloc::{AllocError, Global};
 use vg_fates::FateRef;
-use vg_model::{Bytes, DropError, End, Fate, Leg, Memory, Name};
+use vg_model::{Bytes, DropError, End, Leg, Memory, Name};
 
 // How many bytes the line of a packet mostly has at most, and how many the lines that aren't of packets. A longer text makes the
 // buffer grow.
@@ -20,9 +22,8 @@ const ROOM_OF_A_LINE: usize = 48;
 
 const ROOM_OF_THE_OTHERS: usize = 16_384;
 
-// The digits of the numbers below 100, two for each.
-static PAIRS: [u8; 200] =
-    *b"00010203040506070809101112131415161718192021222324252627282930313233343536373839404142434445464748495051525354555657585960616263646566676869707172737475767778798081828384858687888990919293949596979899";
+// How many bytes lines are laid in before they are appended.
+const WINDOW: usize = 2048;
 
 // Appends these bytes.
 fn put(out: &mut Vec<u8>, bytes: &[u8]) -> Result<(), AllocError>
@@ -177,77 +178,6 @@ fn put_end(out: &mut Vec<u8>, end: &EndRef<'_>) -> Result<(), AllocError>
     }
 }
 
-// Appends the front of most lines as one piece: `packet`, a number of at most five digits, and a leg whose two numbers have one digit.
-#[inline]
-fn put_short_front(out: &mut Vec<u8>, number: u32, leg: Leg) -> Result<(), AllocError>
-    requires number { number < 100000 }
-    requires leg { (leg.worker < 10) × (leg.generation < 10) }
-    ensures { OnOk result (out.new.items ≡ out.old.items ++ (codes "packet " ++ (decimal number ++ 32 ∷ leg_text leg))) }
-{
-    let worker = b'0' + leg.worker;
-    let generation = b'0' + leg.generation as u8;
-    let low = (number % 100) as usize * 2;
-    let (tens, ones) = (PAIRS[low], PAIRS[low + 1]);
-    let high = (number / 100 % 100) as usize * 2;
-    let (thousands, hundreds) = (PAIRS[high], PAIRS[high + 1]);
-    if number >= 10_000 {
-        let first = b'0' + (number / 100 / 100) as u8;
-        return put(
-            out,
-            &[
-                b'p', b'a', b'c', b'k', b'e', b't', b' ', first, thousands, hundreds, tens, ones,
-                b' ', worker, b':', generation,
-            ],
-        );
-    }
-    if number >= 1_000 {
-        return put(
-            out,
-            &[
-                b'p', b'a', b'c', b'k', b'e', b't', b' ', thousands, hundreds, tens, ones, b' ',
-                worker, b':', generation,
-            ],
-        );
-    }
-    if number >= 100 {
-        return put(
-            out,
-            &[
-                b'p', b'a', b'c', b'k', b'e', b't', b' ', hundreds, tens, ones, b' ', worker, b':',
-                generation,
-            ],
-        );
-    }
-    if number >= 10 {
-        return put(
-            out,
-            &[
-                b'p', b'a', b'c', b'k', b'e', b't', b' ', tens, ones, b' ', worker, b':',
-                generation,
-            ],
-        );
-    }
-    put(
-        out,
-        &[
-            b'p', b'a', b'c', b'k', b'e', b't', b' ', ones, b' ', worker, b':', generation,
-        ],
-    )
-}
-
-// Appends `packet`, the number of the packet and its one leg.
-#[inline]
-fn put_front_of_one(out: &mut Vec<u8>, number: usize, leg: Leg) -> Result<(), AllocError>
-    ensures { OnOk result (out.new.items ≡ out.old.items ++ (codes "packet " ++ (decimal number ++ 32 ∷ leg_text leg))) }
-{
-    if number < 100_000 && leg.worker < 10 && leg.generation < 10 {
-        return put_short_front(out, number as u32, leg);
-    }
-    put(out, b"packet ")?;
-    put_decimal(out, number as u64)?;
-    put_leg(out, b' ', leg)
-}
-
 // Appends `packet`, the number of the packet and its legs.
 fn put_long_front(out: &mut Vec<u8>, number: usize, legs: &[Leg]) -> Result<(), AllocError>
     ensures { OnOk result (out.new.items ≡ out.old.items ++ (codes "packet " ++ (decimal number ++ 32 ∷ legs_word legs.now))) }
@@ -288,60 +218,94 @@ fn sent_ends(alloc: Global, interfaces: &[Name]) -> Result<Vec<Piece>, AllocErro
     Ok(ends)
 }
 
-// Appends how a packet with a fate ended, and ends the line. For packets that were transmitted the text stands ready, by interface.
-#[inline]
-fn put_fate_end(
-    out: &mut Vec<u8>,
-    end: End,
+// The end of the lines of packets that a node dropped with an error, where it is short enough.
+fn dropped_end(
+    alloc: Global,
     names: &NamedFates<'_>,
-    sent: &[Piece],
-) -> Result<(), AllocError>
-    requires named { IsNamed names.now.interfaces.now names.now.nodes.now end }
-    requires ready { sent.now ≡ map sent_end_of names.now.interfaces.now }
-    ensures { OnOk result (out.new.items ≡ out.old.items ++ (further (end_words (end_by names.now.interfaces.now names.now.nodes.now end)) ++ 10 ∷ [])) }
+    node: u16,
+    error: DropError,
+) -> Result<Option<DroppedEnd>, AllocError>
+    requires { node < length names.now.nodes.now }
+    ensures { IfOk result (λ ready. IfSome ready (IsReady names.now.interfaces.now names.now.nodes.now)) }
 {
+    let mut end = Vec::new(alloc);
+    let node_name = &names.nodes[usize::from(node)];
+    put_end(
+        &mut end,
+        &EndRef::Dropped {
+            node: node_name,
+            error,
+        },
+    )?;
+    if end.len() > ROOM {
+        return Ok(None);
+    }
+    let text = Piece::of(end.as_slice());
+    Ok(Some(DroppedEnd { node, error, text }))
+}
+
+// The end that stands ready for packets that were dropped; if there is none yet, that of a packet that ended so.
+#[cold]
+#[inline(never)]
+fn first_dropped(
+    alloc: Global,
+    names: &NamedFates<'_>,
+    dropped: Option<DroppedEnd>,
+    end: End,
+) -> Result<Option<DroppedEnd>, AllocError>
+    requires named { IsNamed names.now.interfaces.now names.now.nodes.now end }
+    requires ready { IfSome dropped (IsReady names.now.interfaces.now names.now.nodes.now) }
+    ensures { IfOk result (λ ready. IfSome ready (IsReady names.now.interfaces.now names.now.nodes.now)) }
+{
+    if dropped.is_some() {
+        return Ok(dropped);
+    }
     match end {
-        End::Tx { interface } => sent[usize::from(interface)].put(out),
-        End::Dropped { .. } => put_end(out, &named(names.interfaces, names.nodes, end)),
+        End::Tx { .. } => Ok(None),
+        End::Dropped { node, error } => dropped_end(alloc, names, node, error),
     }
 }
 
-// Appends the line of a packet with several legs, or one that a queue refused.
-#[inline(never)]
-fn put_other_line(
-    out: &mut Vec<u8>,
-    number: usize,
-    fate: &Fate,
-    names: &NamedFates<'_>,
-) -> Result<(), AllocError>
-    requires { IsNamed names.now.interfaces.now names.now.nodes.now fate.now.end }
-    ensures { OnOk result (out.new.items ≡ out.old.items ++ line_text (packet_line number (line_by names.now.interfaces.now names.now.nodes.now fate.now))) }
+// How a packet with this fate ended.
+fn end_of(fate: FateRef<'_>) -> End
+    ensures { result ≡ (fate_seen fate.entry).end }
 {
-    put_long_front(out, number, fate.legs.as_slice())?;
-    put_congested(out, fate.congested)?;
-    put_end(out, &named(names.interfaces, names.nodes, fate.end))
+    match fate {
+        FateRef::Plain { end, .. } => end,
+        FateRef::Other(fate) => fate.end,
+    }
 }
 
-// Appends the line of a packet with this fate.
-#[inline]
-fn put_fate_line(
+// Appends what lies at the start of the window, and behind it the line of a packet with this fate.
+#[cold]
+#[inline(never)]
+fn put_behind(
     out: &mut Vec<u8>,
+    laid: &[u8],
     number: usize,
     fate: FateRef<'_>,
     names: &NamedFates<'_>,
-    sent: &[Piece],
 ) -> Result<(), AllocError>
-    requires named { IsNamed names.now.interfaces.now names.now.nodes.now (fate_seen fate).end }
-    requires ready { sent.now ≡ map sent_end_of names.now.interfaces.now }
-    ensures { OnOk result (out.new.items ≡ out.old.items ++ line_text (packet_line number (line_by names.now.interfaces.now names.now.nodes.now (fate_seen fate.entry)))) }
+    requires { IsNamed names.now.interfaces.now names.now.nodes.now (fate_seen fate).end }
+    ensures { OnOk result (out.new.items ≡ (out.old.items ++ laid.now) ++ line_text (packet_line number (line_by names.now.interfaces.now names.now.nodes.now (fate_seen fate.entry)))) }
 {
-    match fate {
-        FateRef::Plain { leg, end, .. } => {
-            put_front_of_one(out, number, leg)?;
-            put_fate_end(out, end, names, sent)
-        }
-        FateRef::Other(fate) => put_other_line(out, number, fate, names),
+    put(out, laid)?;
+    put_packet_line(out, number, &line_of(names.interfaces, names.nodes, fate))
+}
+
+// Appends what lies in the window up to this place, where there is no room for a line behind it. Answers up to where something lies there now.
+#[inline]
+fn put_full(out: &mut Vec<u8>, window: &[u8], at: usize) -> Result<usize, AllocError>
+    requires window { length window.now ≡ 2048 }
+    requires within { at ≤ 2048 }
+    ensures room { IfOk result (λ rest. rest + 86 ≤ 2048) }
+    ensures all { IfOk result (λ rest. out.new.items ++ take rest window.now ≡ out.old.items ++ take at window.now) }
+{
+    if at <= WINDOW - LINE_ROOM {
+        return Ok(at);
     }
+    put(out, &window[..at])?;
+    Ok(0)
 }
 
 // Appends the names as further words.
@@ -390,23 +354,50 @@ fn put_error_lines(out: &mut Vec<u8>, errors: &[(Name, DropError, u64)]) -> Resu
     Ok(())
 }
 
-// Appends the lines of packets with these fates.
+// Appends the lines of packets with these fates. Most are laid into a window first, from which they are appended many at once.
+#[inline(never)]
+fn put_lines_by(
+    out: &mut Vec<u8>,
+    window: &mut [u8],
+    names: &NamedFates<'_>,
+    sent: &[Piece],
+) -> Result<(), AllocError>
+    requires window { length window.old ≡ 2048 }
+    requires named { AreNamed names.now.interfaces.now names.now.nodes.now names.now.fates.now }
+    requires ready { sent.now ≡ map sent_end_of names.now.interfaces.now }
+    ensures { OnOk result (out.new.items ≡ out.old.items
+        ++ flat_map line_text (numbered packet_line 0 (lines_of names.now.interfaces.now names.now.nodes.now names.now.fates.now))) }
+{
+    let alloc = *out.allocator();
+    let mut dropped = None;
+    let mut front = Front::first();
+    let mut at = 0;
+    for number in 0..names.fates.len() {
+        front.turn_to(number);
+        let fate = names.fates.view(number);
+        match short_of(number, fate, names, sent, &dropped) {
+            Some(short) => {
+                let end = lay_line(window, at, &front, number % 100, short);
+                at = put_full(out, window, end)?;
+            }
+            None => {
+                put_behind(out, &window[..at], number, fate, names)?;
+                at = 0;
+                dropped = first_dropped(alloc, names, dropped, end_of(fate))?;
+            }
+        }
+    }
+    put(out, &window[..at])
+}
+
 fn put_fate_lines(out: &mut Vec<u8>, names: &NamedFates<'_>) -> Result<(), AllocError>
     requires { AreNamed names.now.interfaces.now names.now.nodes.now names.now.fates.now }
     ensures { OnOk result (out.new.items ≡ out.old.items
         ++ flat_map line_text (numbered packet_line 0 (lines_of names.now.interfaces.now names.now.nodes.now names.now.fates.now))) }
 {
     let sent = sent_ends(*out.allocator(), names.interfaces)?;
-    for number in 0..names.fates.len() {
-        put_fate_line(
-            out,
-            number,
-            names.fates.view(number),
-            names,
-            sent.as_slice(),
-        )?;
-    }
-    Ok(())
+    let mut window = [0; WINDOW];
+    put_lines_by(out, &mut window, names, sent.as_slice())
 }
 
 fn put_packet_lines(out: &mut Vec<u8>, packets: &PacketLines) -> Result<(), AllocError>

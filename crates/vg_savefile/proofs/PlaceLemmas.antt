@@ -1,7 +1,7 @@
--- For `put_header`, `move_back` and `put_record`: bytes that are written into a list, one part after the other.
-use Rattle.std.proofs.Common.{◌≡◌, ℕ, ◌+◌, ◌-◌, ◌≤◌, List, [], ◌++◌, length, take, drop, refl, sym, ap, ◌∙◌, arith, append_assoc}
-use Rattle.std.specs.Prelude.{Some, slice_get, option_map}
-use Rattle.std.proofs.lemmas.List.{drop-drop, take-take, take_at, drop_at, take-append-le, length-append, length-take-le}
+-- For `put_header`, `copy`, `move_back` and `put_record`: bytes that are written into a list, one part after the other.
+use Rattle.std.proofs.Common.{◌≡◌, ℕ, ◌+◌, ◌-◌, ◌≤◌, List, [], ◌++◌, length, take, drop, refl, sym, ap, ◌∙◌, arith, append_assoc, append-nil, take_all}
+use Rattle.std.specs.Prelude.{Some, slice_get, slice_range, option_map}
+use Rattle.std.proofs.lemmas.List.{drop-drop, drop_all, take-take, take_at, drop_at, take-append-le, take-append-drop, length-append, length-take-le, length-drop}
 use Rattle.vg_capture.specs.declared.captures.Captured.{Captured}
 use Rattle.vg_capture.specs.declared.captures.Marks.{Marks}
 use Rattle.vg_capture.specs.Places.{head_of, marks_of}
@@ -36,6 +36,24 @@ in_front l l1 l2 head body at to end to_is end_is within first second =
     ∙ ap (λ z. z ++ (head ++ drop to (take to l ++ (body ++ drop end l)))) front
     ∙ ap (λ z. take at l ++ (head ++ z)) rest
     ∙ ap (λ z. take at l ++ z) (sym (append_assoc head body (drop end l)))
+
+-- the first 32 bytes of a list, and then the last 32, of 32 to 64
+pub halves : (to from l1 l2 : List ℕ) (len : ℕ) → length to ≡ len → length from ≡ len → 32 ≤ len → len ≤ 64
+    → l1 ≡ take 0 to ++ (slice_range from 0 32 ++ drop 32 to) → l2 ≡ take (len - 32) l1 ++ (slice_range from (len - 32) (len - 32 + 32) ++ drop (len - 32 + 32) l1) → l2 ≡ from
+halves to from l1 l2 len to_len from_len least most first second =
+    let front : length (take 32 from) ≡ 32 = length-take-le 32 from (omega (arith, from_len, least)) in
+    let is : l1 ≡ take 32 from ++ drop 32 to = first in
+    let size : length l1 ≡ len = ap length is ∙ length-append (take 32 from) (drop 32 to) ∙ (let rest = length-drop 32 to in let e : length (take 32 from) + length (drop 32 to) ≡ len = omega (arith, front, rest, to_len, least) in e) in
+    let low : take (len - 32) l1 ≡ take (len - 32) from =
+    ap (take (len - 32)) is ∙ take-append-le (len - 32) (take 32 from) (drop 32 to) (omega (arith, front, most)) ∙ take-take (len - 32) 32 from (omega (arith, most)) in
+    let high : slice_range from (len - 32) (len - 32 + 32) ≡ drop (len - 32) from =
+    take_all (len - 32 + 32 - (len - 32)) (drop (len - 32) from) (let rest = length-drop (len - 32) from in omega (arith, rest, from_len)) in
+    let none : drop (len - 32 + 32) l1 ≡ [] = drop_all (len - 32 + 32) l1 (omega (arith, size)) in
+    second ∙ ap (λ xs. xs ++ (slice_range from (len - 32) (len - 32 + 32) ++ drop (len - 32 + 32) l1)) low
+    ∙ ap (λ xs. take (len - 32) from ++ (xs ++ drop (len - 32 + 32) l1)) high
+    ∙ ap (λ xs. take (len - 32) from ++ (drop (len - 32) from ++ xs)) none
+    ∙ ap (λ xs. take (len - 32) from ++ xs) (append-nil (drop (len - 32) from))
+    ∙ take-append-drop (len - 32) from
 
 -- four numbers, one behind the other
 pub four_behind : (l l1 l2 l3 l4 s f n o : List ℕ) (at : ℕ) → length s ≡ 4 → length f ≡ 4 → length n ≡ 4 → length o ≡ 4 → at + 16 ≤ length l

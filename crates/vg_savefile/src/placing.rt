@@ -31,6 +31,30 @@ fn put_header(list: &mut [u8], at: usize, marks: Marks, len: u32)
     put_number(list, at + 12, marks.original);
 }
 
+/// Copies 32 bytes.
+#[inline]
+fn copy_32(to: &mut [u8], from: &[u8], at: usize)
+    requires within { (at + 32 ≤ length to.old) × (at + 32 ≤ length from.now) }
+    ensures { to.new ≡ take at to.old ++ (slice_range from.now at (at + 32) ++ drop (at + 32) to.old) }
+{
+    to[at..at + 32].copy_from_slice(&from[at..at + 32]);
+}
+
+/// Copies bytes. 32 to 64 of them, as a small packet has, are copied as the first 32 and the last 32, in line.
+#[inline]
+fn copy(to: &mut [u8], from: &[u8])
+    requires { length to.old ≡ length from.now }
+    ensures { to.new ≡ from.now }
+{
+    let len = from.len();
+    if 32 <= len && len <= 64 {
+        copy_32(to, from, 0);
+        copy_32(to, from, len - 32);
+    } else {
+        to.copy_from_slice(from);
+    }
+}
+
 /// Copies so many bytes of a list to a place further back. Where no byte is read that was written, it is one copy.
 #[inline]
 fn move_back(list: &mut [u8], start: usize, len: usize, to: usize)
@@ -38,9 +62,9 @@ fn move_back(list: &mut [u8], start: usize, len: usize, to: usize)
     requires within { to + len ≤ length list.old }
     ensures { list.new ≡ take to list.old ++ (slice_range list.old start (start + len) ++ drop (to + len) list.old) }
 {
-    if start + len <= to {
+    if len <= to - start {
         let (front, back) = list.split_at_mut(to);
-        back[..len].copy_from_slice(&front[start..start + len]);
+        copy(&mut back[..len], &front[start..start + len]);
     } else {
         list.copy_within(start..start + len, to);
     }

@@ -21,7 +21,7 @@ fn fill_list(entries: &[SentEntry], len: usize) -> bool
     }
     let mut end: usize = 0;
     for entry in entries {
-        if entry.part != 0 || entry.start != end || len - end < entry.len as usize {
+        if entry.part != 0 || entry.start != end {
             return false;
         }
         end += entry.len as usize;

@@ -1,4 +1,5 @@
-use Rattle.std.proofs.Common.{◌≡◌, ◌+◌, ◌-◌, ◌≤◌, List, [], ◌∷◌, ◌++◌, take, get_or, sym, ap, subst, ◌∙◌, arith}
+-- For `fill_list`: one packet more.
+use Rattle.std.proofs.Common.{◌≡◌, ◌+◌, ◌*◌, ◌≤◌, List, [], ◌∷◌, ◌++◌, take, get_or, sym, ap, subst, ◌∙◌, arith}
 use Rattle.std.proofs.lemmas.List.{take_more}
 use Rattle.vg_underway.specs.declared.sent.SentEntry.{SentEntry}
 use Rattle.vg_savefile.specs.Packed.{ArePacked, total_len}
@@ -13,10 +14,9 @@ loop-entry-preserved c =
     let more : take (c.loop-entry.entry-index + 1) c.args.entries.now ≡ front ++ e ∷ [] = take_more c.args.entries.now c.loop-entry.entry-index none c.loop-entry-test.true in
     let total : total_len front ≡ c.loop-entry.end = c.loop-entry.invariant.total in
     let start : e.start ≡ c.loop-entry.end = c.if-entry-end.false in
-    let room : e.len ≤ c.args.len - c.loop-entry.end = c.if-len-end.false in
-    let within : c.loop-entry.end ≤ c.args.len = c.loop-entry.invariant.within in
+    let few : c.loop-entry.end ≤ 65535 * c.loop-entry.entry-index = c.loop-entry.invariant.few in
     record {
       packed = subst (ArePacked 0) (sym more) (packed_push 0 front e c.loop-entry.invariant.packed c.if-entry-ne0.false (omega (arith, start, total)));
       total = ap total_len more ∙ total_push front e ∙ ap (λ n. n + e.len) total;
-      within = omega (arith, room, within);
+      few = omega (arith, few);
     }
