@@ -2,7 +2,6 @@
 
 use crate::memory_runs::{HEADER, RUN, WIRE, run_over};
 use std::alloc::{AllocError, Global};
-use std::test::Fail;
 
 /// A savefile's header, and zero bytes behind it up to a length: a record of no bytes for each 16.
 fn zeros_up_to(alloc: Global, len: usize) -> Result<Vec<u8>, AllocError> {
@@ -11,9 +10,8 @@ fn zeros_up_to(alloc: Global, len: usize) -> Result<Vec<u8>, AllocError> {
     Ok(file)
 }
 
-#[test]
-fn as_many_packets_as_may_be_are_run(rt: HostRuntime) -> Result<(), Fail> {
-    let alloc = rt.alloc();
+/// The report of that run.
+fn report(alloc: Global) -> Result<String, AllocError> {
     let mut report = String::from_str(
         alloc,
         "vgd report 1\nworkers 1\nbuffers 4096\ngenerations 1\npackets 65536\n\
@@ -27,9 +25,19 @@ fn as_many_packets_as_may_be_are_run(rt: HostRuntime) -> Result<(), Fail> {
         report.push_str(line.as_str())?;
     }
     report.push_str("end\n")?;
-    let ran = run_over(&rt, &RUN, zeros_up_to(alloc, 1_048_600)?.as_slice(), WIRE)?;
+    Ok(report)
+}
+
+#[test]
+fn as_many_packets_as_may_be_are_run(rt: HostRuntime) {
+    let alloc = rt.alloc();
+    let report = report(alloc).expect(&rt, "memory");
+    let capture = zeros_up_to(alloc, 1_048_600).expect(&rt, "memory");
+    let ran = run_over(&rt, &RUN, capture.as_slice(), WIRE);
     assert_eq!(rt; ran.status, 0);
     assert_eq!(rt; ran.printed.as_slice(), report.as_str().as_bytes());
-    assert_eq!(rt; ran.tx.ok_or("no savefile")?.as_slice(), HEADER.as_slice());
-    Ok(())
+    assert_eq!(rt;
+        ran.tx.expect(&rt, "no savefile").as_slice(),
+        HEADER.as_slice()
+    );
 }

@@ -5,7 +5,6 @@ use crate::workers::{HAND, TO_1, crossing, rounds};
 use std::alloc::{AllocError, Global};
 use std::process::Abort;
 use std::sync::Wait;
-use std::test::Fail;
 use std::thread::Threads;
 use vg_report::read_report;
 
@@ -29,31 +28,31 @@ impl Output {
         capture: Vec<u8>,
         script: &'static [u8],
         turns: &[u8],
-    ) -> Result<Output, Fail> {
-        let ran = run_by(rt, words, capture.as_slice(), script, turns)?;
+    ) -> Output {
+        let ran = run_by(rt, words, capture.as_slice(), script, turns);
         assert_eq!(rt; ran.status, 0);
-        Ok(Output {
-            tx: ran.tx.ok_or("no savefile")?,
-            report: String::from_utf8(ran.printed)?,
+        Output {
+            tx: ran.tx.expect(rt, "no savefile"),
+            report: String::from_utf8(ran.printed).expect(rt, "text"),
             capture,
             script,
-        })
+        }
     }
 }
 
 /// Calls the program over a capture, a script and turns.
-fn run_by<R: Wait + Threads + Sync + AllocGlobal>(
+fn run_by<R: Abort + Wait + Threads + Sync + AllocGlobal>(
     rt: &R,
     words: &[&str],
     capture: &[u8],
     script: &[u8],
     turns: &[u8],
-) -> Result<Ran, AllocError> {
+) -> Ran {
     run_with(rt, words, &[("c", capture), ("s", script), ("u", turns)])
 }
 
 /// The run of five packets by two workers whose queue has one slot, which is full at the third packet.
-fn handed<R: Abort + Wait + Threads + Sync + AllocGlobal>(rt: &R) -> Result<Output, Fail> {
+fn handed<R: Abort + Wait + Threads + Sync + AllocGlobal>(rt: &R) -> Output {
     let words = [
         "run",
         "--workers",
@@ -68,7 +67,7 @@ fn handed<R: Abort + Wait + Threads + Sync + AllocGlobal>(rt: &R) -> Result<Outp
         "s",
         "t",
     ];
-    let capture = savefile(rt.alloc(), &[TO_1, TO_1, TO_1, TO_1, TO_1])?;
+    let capture = savefile(rt.alloc(), &[TO_1, TO_1, TO_1, TO_1, TO_1]).expect(rt, "memory");
     Output::of(rt, &words, capture, HAND, b"0010")
 }
 
@@ -82,42 +81,37 @@ fn changed(alloc: Global, bytes: &[u8], place: usize, bits: u8) -> Result<Vec<u8
     Ok(other)
 }
 
-/// The first place of a text in another.
-fn place_of(text: &str, part: &str) -> Result<usize, Fail> {
-    Ok(text.find(part).ok_or("no such text")?)
-}
-
 /// Whether a check of two workers' output with these bytes answers yes.
-fn is_accepted<R: Wait + Threads + Sync + AllocGlobal>(
+fn is_accepted<R: Abort + Wait + Threads + Sync + AllocGlobal>(
     rt: &R,
     run: &Output,
     tx: &[u8],
     report: &[u8],
-) -> Result<bool, AllocError> {
+) -> bool {
     let files: [(&str, &[u8]); 4] = [
         ("c", run.capture.as_slice()),
         ("s", run.script),
         ("t", tx),
         ("r", report),
     ];
-    Ok(run_with(rt, &CHECK_ONE, &files)?.status == 0)
+    run_with(rt, &CHECK_ONE, &files).status == 0
 }
 
 /// Whether a second run of the two workers, with as many buffers as a report names, puts this report out beside the same savefile.
-fn is_put_out<R: Wait + Threads + Sync + AllocGlobal>(
+fn is_put_out<R: Abort + Wait + Threads + Sync + AllocGlobal>(
     rt: &R,
     run: &Output,
     report: &[u8],
-) -> Result<bool, AllocError> {
+) -> bool {
     let alloc = rt.alloc();
     let Ok(read) = read_report(alloc, report) else {
-        return Ok(false);
+        return false;
     };
     let buffers = read.buffers;
     if buffers == 4096 {
-        return Ok(run.report.as_str().as_bytes() == report);
+        return run.report.as_str().as_bytes() == report;
     }
-    let buffers = format!(in alloc; "--buffers={buffers}")?;
+    let buffers = format!(in alloc; "--buffers={buffers}").expect(rt, "memory");
     let words = [
         "run",
         "--workers",
@@ -138,28 +132,29 @@ fn is_put_out<R: Wait + Threads + Sync + AllocGlobal>(
         printed,
         tx,
         ran: _,
-    } = run_by(rt, &words, run.capture.as_slice(), run.script, b"0010")?;
+    } = run_by(rt, &words, run.capture.as_slice(), run.script, b"0010");
     let Some(tx) = tx else {
-        return Ok(false);
+        return false;
     };
-    Ok(printed.as_slice() == report && tx.as_slice() == run.tx.as_slice())
+    printed.as_slice() == report && tx.as_slice() == run.tx.as_slice()
 }
 
 // A changed report is accepted where a run puts it out, which is with another number of buffers than the 4,096 of this one. And two
 // packets went over the queue, so it may have been full with 2 of them, though no turns of these workers come to that.
 #[test]
-fn a_changed_byte_is_accepted_where_a_run_puts_it_out(rt: HostRuntime) -> Result<(), Fail> {
+fn a_changed_byte_is_accepted_where_a_run_puts_it_out(rt: HostRuntime) {
     let alloc = rt.alloc();
-    let run = handed(&rt)?;
+    let run = handed(&rt);
     let report = run.report.as_str().as_bytes();
     let tx = run.tx.as_slice();
-    let count = place_of(run.report.as_str(), "1 drop hand congestion")?;
+    let count = run.report.as_str().find("1 drop hand congestion");
+    let count = count.expect(&rt, "a count");
     for bits in [1_u8, 3] {
         for place in 0..report.len() {
-            let other = changed(alloc, report, place, bits)?;
+            let other = changed(alloc, report, place, bits).expect(&rt, "memory");
             let other = other.as_slice();
-            let accepted = is_accepted(&rt, &run, tx, other)?;
-            let put_out = is_put_out(&rt, &run, other)?;
+            let accepted = is_accepted(&rt, &run, tx, other);
+            let put_out = is_put_out(&rt, &run, other);
             assert_eq!(rt;
                 accepted,
                 put_out || (bits == 3 && place == count),
@@ -168,21 +163,20 @@ fn a_changed_byte_is_accepted_where_a_run_puts_it_out(rt: HostRuntime) -> Result
         }
     }
     for place in 0..tx.len() {
-        let other = changed(alloc, tx, place, 1)?;
+        let other = changed(alloc, tx, place, 1).expect(&rt, "memory");
         assert!(rt;
-            !is_accepted(&rt, &run, other.as_slice(), report)?,
+            !is_accepted(&rt, &run, other.as_slice(), report),
             "{place}"
         );
     }
-    Ok(())
 }
 
 #[test]
-fn a_run_of_eight_workers_in_threads_is_accepted(rt: HostRuntime) -> Result<(), Fail> {
+fn a_run_of_eight_workers_in_threads_is_accepted(rt: HostRuntime) {
     let alloc = rt.alloc();
     let macs = ["02fe00000000 020000000001"; 2];
-    let capture = rounds(alloc, 300, 64, 0xae, macs)?;
-    let script = crossing(alloc)?;
+    let capture = rounds(alloc, 300, 64, 0xae, macs).expect(&rt, "memory");
+    let script = crossing(alloc).expect(&rt, "memory");
     let script = script.as_str().as_bytes();
     let words = [
         "run",
@@ -198,9 +192,9 @@ fn a_run_of_eight_workers_in_threads_is_accepted(rt: HostRuntime) -> Result<(), 
         "s",
         "t",
     ];
-    let ran = run_over(&rt, &words, capture.as_slice(), script)?;
+    let ran = run_over(&rt, &words, capture.as_slice(), script);
     assert_eq!(rt; ran.status, 0);
-    let tx = ran.tx.ok_or("no savefile")?;
+    let tx = ran.tx.expect(&rt, "no savefile");
     let files: [(&str, &[u8]); 4] = [
         ("c", capture.as_slice()),
         ("s", script),
@@ -208,8 +202,7 @@ fn a_run_of_eight_workers_in_threads_is_accepted(rt: HostRuntime) -> Result<(), 
         ("r", ran.printed.as_slice()),
     ];
     let words = ["check", "--queue", "2", "c", "s", "t", "r"];
-    let checked = run_with(&rt, &words, &files)?;
+    let checked = run_with(&rt, &words, &files);
     assert_eq!(rt; checked.printed.as_slice(), "yes\n".as_bytes());
     assert_eq!(rt; checked.status, 0);
-    Ok(())
 }

@@ -4,7 +4,6 @@ use crate::memory_runs::{
     FRAME, Frame, HEADER, RUN, WORKERS, bytes_of, run_over, saved_by, savefile,
 };
 use std::alloc::{AllocError, Global};
-use std::test::Fail;
 
 /// A packet from 2001:db8::1 to 2001:db8::2, with a hop limit of 64 and no data.
 const IP6: Frame<'static> = (
@@ -92,11 +91,16 @@ fn push_groups(text: &mut String, address: u128) -> Result<(), AllocError> {
     Ok(())
 }
 
-// A prefix of each length around one address, each with a neighbor of its own. An address that differs in a bit is covered by those prefixes
-// that end in front of it; the longest has that bit's number as its length.
-#[test]
-fn every_prefix_length_counts(rt: HostRuntime) -> Result<(), Fail> {
-    let alloc = rt.alloc();
+/// What a run over a prefix of each length takes and saves.
+#[derive(Drop)]
+struct Prefixes {
+    script: String,
+    packets: Vec<Packet6>,
+    saved: Vec<u8>,
+}
+
+/// A prefix of each length around one address, each with a neighbor of its own, and a packet that each is the longest match of.
+fn all_prefixes(alloc: Global) -> Result<Prefixes, AllocError> {
     let mut script = String::from_str(alloc, DUAL)?;
     let mut packets = Vec::new(alloc);
     let mut saved = HEADER.to_vec(alloc)?;
@@ -129,11 +133,28 @@ fn every_prefix_length_counts(rt: HostRuntime) -> Result<(), Fail> {
         };
         add(alloc, &mut saved, addresses.as_str(), sent)?;
     }
-    let capture = arriving(alloc, packets.as_slice())?;
-    let ran = run_over(&rt, &RUN, capture.as_slice(), script.as_str().as_bytes())?;
+    Ok(Prefixes {
+        script,
+        packets,
+        saved,
+    })
+}
+
+// An address that differs in a bit from the mixed one is covered by those prefixes that end in front of it; the longest has that bit's number as
+// its length.
+#[test]
+fn every_prefix_length_counts(rt: HostRuntime) {
+    let alloc = rt.alloc();
+    let all = all_prefixes(alloc).expect(&rt, "memory");
+    let capture = arriving(alloc, all.packets.as_slice()).expect(&rt, "memory");
+    let ran = run_over(
+        &rt,
+        &RUN,
+        capture.as_slice(),
+        all.script.as_str().as_bytes(),
+    );
     assert_eq!(rt; ran.status, 0);
-    assert_eq!(rt; ran.tx.ok_or("no savefile")?, saved);
-    Ok(())
+    assert_eq!(rt; ran.tx.expect(&rt, "no savefile"), all.saved);
 }
 
 /// Both versions behind a handoff, with events on both tables of routes.
@@ -159,10 +180,10 @@ fn in_turn(alloc: Global) -> Result<Vec<u8>, AllocError> {
 
 // Where a packet that is handed over meets an event depends on the turns, so the check alone says what may come of it.
 #[test]
-fn any_workers_do_what_a_check_accepts(rt: HostRuntime) -> Result<(), Fail> {
+fn any_workers_do_what_a_check_accepts(rt: HostRuntime) {
     let alloc = rt.alloc();
-    let capture = in_turn(alloc)?;
-    let script = format!(in alloc; "{DUAL}{CHANGING}")?;
+    let capture = in_turn(alloc).expect(&rt, "memory");
+    let script = format!(in alloc; "{DUAL}{CHANGING}").expect(&rt, "memory");
     for workers in WORKERS {
         for in_threads in [false, true] {
             let _saved = saved_by(
@@ -172,8 +193,7 @@ fn any_workers_do_what_a_check_accepts(rt: HostRuntime) -> Result<(), Fail> {
                 b"00m0m00m",
                 workers,
                 in_threads,
-            )?;
+            );
         }
     }
-    Ok(())
 }

@@ -3,11 +3,10 @@
 
 use crate::memory_runs::{HEADER, Ran, assert_accepted, bytes_of, run_with};
 use crate::walked::checksum;
-use crate::workers::{HAND, TO_1, assert_ran, report};
+use crate::workers::{HAND, TO_1, all_sent, assert_ran, report};
 use std::alloc::{AllocError, Global};
 use std::process::Abort;
 use std::sync::Wait;
-use std::test::Fail;
 use std::thread::Threads;
 
 /// Bytes that differ from their neighbors. Behind the header of packet n stand those from place n on.
@@ -176,18 +175,28 @@ fn lengths_report(alloc: Global, workers: u32, is_handed: bool) -> Result<String
 /// The ways of a run in threads: where a frame is dropped if its queue is full, and where it is held back.
 const IN_THREADS: [&[&str]; 2] = [&[], &["--queue=1", "--burst=1", "--hold"]];
 
+/// The words of a run of so many workers in one of the ways.
+fn words_in(
+    alloc: Global,
+    workers: &'static str,
+    way: &[&'static str],
+) -> Result<Vec<&'static str>, AllocError> {
+    let mut words = vec![in alloc; "run", "--workers", workers]?;
+    words.extend_from_slice(way)?;
+    words.extend_from_slice(&["c", "s", "t"])?;
+    Ok(words)
+}
+
 /// A run of so many workers in one of the ways, with these turns where it is by turns.
-fn run_in<'a, R: Wait + Threads + Sync + AllocGlobal>(
+fn run_in<'a, R: Abort + Wait + Threads + Sync + AllocGlobal>(
     rt: &R,
     workers: &'static str,
     way: &[&'static str],
     capture: &'a [u8],
     script: &'a [u8],
     turns: &'a [u8],
-) -> Result<Ran, AllocError> {
-    let mut words = vec![in rt.alloc(); "run", "--workers", workers]?;
-    words.extend_from_slice(way)?;
-    words.extend_from_slice(&["c", "s", "t"])?;
+) -> Ran {
+    let words = words_in(rt.alloc(), workers, way).expect(rt, "memory");
     let files: [(&str, &[u8]); 3] = [("c", capture), ("s", script), ("u", turns)];
     run_with(rt, words.as_slice(), &files)
 }
@@ -197,19 +206,19 @@ fn assert_lengths<R: Abort + Wait + Threads + Sync + AllocGlobal>(
     rt: &R,
     front: &str,
     is_handed: bool,
-) -> Result<(), Fail> {
+) {
     let alloc = rt.alloc();
-    let body = body(alloc)?;
-    let capture = arriving(alloc, body.as_slice())?;
-    let saved = leaving(alloc, body.as_slice())?;
-    let script = format!(in alloc; "{front}{ROUTES}")?;
+    let body = body(alloc).expect(rt, "memory");
+    let capture = arriving(alloc, body.as_slice()).expect(rt, "memory");
+    let saved = leaving(alloc, body.as_slice()).expect(rt, "memory");
+    let script = format!(in alloc; "{front}{ROUTES}").expect(rt, "memory");
     let script = script.as_str().as_bytes();
     let mut count: u32 = 0;
     for workers in ["1", "2", "3", "4", "5", "6", "7", "8"] {
         count = count.wrapping_add(1);
-        let printed = lengths_report(alloc, count, is_handed)?;
+        let printed = lengths_report(alloc, count, is_handed).expect(rt, "memory");
         for way in IN_THREADS {
-            let ran = run_in(rt, workers, way, capture.as_slice(), script, b"")?;
+            let ran = run_in(rt, workers, way, capture.as_slice(), script, b"");
             assert_accepted(
                 rt,
                 ran,
@@ -217,19 +226,18 @@ fn assert_lengths<R: Abort + Wait + Threads + Sync + AllocGlobal>(
                 script,
                 saved.as_slice(),
                 printed.as_str(),
-            )?;
+            );
         }
     }
-    Ok(())
 }
 
 #[test]
-fn packets_of_all_lengths_end_alike_on_any_workers(rt: HostRuntime) -> Result<(), Fail> {
+fn packets_of_all_lengths_end_alike_on_any_workers(rt: HostRuntime) {
     assert_lengths(&rt, "", false)
 }
 
 #[test]
-fn packets_of_all_lengths_are_handed_over(rt: HostRuntime) -> Result<(), Fail> {
+fn packets_of_all_lengths_are_handed_over(rt: HostRuntime) {
     assert_lengths(&rt, HANDOFF, true)
 }
 
@@ -261,15 +269,11 @@ fn longest(alloc: Global, count: usize) -> Result<Vec<u16>, AllocError> {
 // Worker 0 has seven turns first. For six of them it takes 128 buffers of the pool, and draws 25 or 26 packets, which are one frame. In the
 // seventh it draws none, since no buffers are left: a seventh frame would be refused.
 #[test]
-fn an_empty_pool_leaves_long_packets_for_later(rt: HostRuntime) -> Result<(), Fail> {
+fn an_empty_pool_leaves_long_packets_for_later(rt: HostRuntime) {
     let alloc = rt.alloc();
-    let capture = frames(alloc, longest(alloc, 1600)?.as_slice(), None)?;
-    let mut lines = String::new(alloc);
-    for number in 0..1600_u32 {
-        let legs = if number % 2 == 0 { "0:0,1:0" } else { "1:0" };
-        let line = format!(in alloc; "packet {number} {legs} tx pg0\n")?;
-        lines.push_str(line.as_str())?;
-    }
+    let lens = longest(alloc, 1600).expect(&rt, "memory");
+    let capture = frames(alloc, lens.as_slice(), None).expect(&rt, "memory");
+    let lines = all_sent(alloc, 1600).expect(&rt, "memory");
     let words = [
         "run",
         "--workers=2",
@@ -281,23 +285,19 @@ fn an_empty_pool_leaves_long_packets_for_later(rt: HostRuntime) -> Result<(), Fa
         "t",
     ];
     let files: [(&str, &[u8]); 3] = [("c", capture.as_slice()), ("s", HAND), ("u", b"0000000")];
-    let ran = run_with(&rt, &words, &files)?;
+    let ran = run_with(&rt, &words, &files);
     let counts = [1600, 800, 1600, 0, 1600, 1600];
-    let report = report(alloc, [768, 1, 1600], counts, lines.as_str())?;
-    assert_ran(&rt, ran, report.as_str(), capture.as_slice(), 1)
+    let report = report(alloc, [768, 1, 1600], counts, lines.as_str()).expect(&rt, "memory");
+    assert_ran(&rt, ran, report.as_str(), capture.as_slice(), 1);
 }
 
-/// Of 102 packets of these lengths, those of worker 1 are sent, and so are those of worker 0 below a number that aren't too long. Worker 0 has two turns
-/// first; the frame of the second finds that of the first in the queue, and each of its packets is dropped.
-fn assert_drawn<R: Abort + Wait + Threads + Sync + AllocGlobal>(
-    rt: &R,
+/// The lines of these errors, and of packets of these lengths, of which worker 0's from a number on are dropped.
+fn drawn_lines(
+    alloc: Global,
     lens: &[u16],
     lost_from: usize,
     errors: &str,
-    counts: [u32; 6],
-) -> Result<(), Fail> {
-    let alloc = rt.alloc();
-    let capture = frames(alloc, lens, None)?;
+) -> Result<String, AllocError> {
     let mut lines = String::from_str(alloc, errors)?;
     for (number, len) in lens.iter().enumerate() {
         let end = if number % 2 == 1 {
@@ -312,6 +312,21 @@ fn assert_drawn<R: Abort + Wait + Threads + Sync + AllocGlobal>(
         let line = format!(in alloc; "packet {number} {end}\n")?;
         lines.push_str(line.as_str())?;
     }
+    Ok(lines)
+}
+
+/// Of 102 packets of these lengths, those of worker 1 are sent, and so are those of worker 0 below a number that aren't too long. Worker 0 has two turns
+/// first; the frame of the second finds that of the first in the queue, and each of its packets is dropped.
+fn assert_drawn<R: Abort + Wait + Threads + Sync + AllocGlobal>(
+    rt: &R,
+    lens: &[u16],
+    lost_from: usize,
+    errors: &str,
+    counts: [u32; 6],
+) {
+    let alloc = rt.alloc();
+    let capture = frames(alloc, lens, None).expect(rt, "memory");
+    let lines = drawn_lines(alloc, lens, lost_from, errors).expect(rt, "memory");
     let words = [
         "run",
         "--workers=2",
@@ -322,28 +337,34 @@ fn assert_drawn<R: Abort + Wait + Threads + Sync + AllocGlobal>(
         "t",
     ];
     let files: [(&str, &[u8]); 3] = [("c", capture.as_slice()), ("s", HAND), ("u", b"00")];
-    let ran = run_with(rt, &words, &files)?;
-    let report = report(alloc, [4096, 1, 102], counts, lines.as_str())?;
-    let saved = frames(alloc, lens, Some(lost_from))?;
-    assert_ran(rt, ran, report.as_str(), saved.as_slice(), 1)
+    let ran = run_with(rt, &words, &files);
+    let report = report(alloc, [4096, 1, 102], counts, lines.as_str()).expect(rt, "memory");
+    let saved = frames(alloc, lens, Some(lost_from)).expect(rt, "memory");
+    assert_ran(rt, ran, report.as_str(), saved.as_slice(), 1);
 }
 
 // For its first turn worker 0 takes 128 buffers, which are enough for 25 packets. Three are left, so it takes 128 more for the second, and draws 26.
 #[test]
-fn a_turn_draws_as_many_long_packets_as_there_are_buffers_for(rt: HostRuntime) -> Result<(), Fail> {
-    let lens = longest(rt.alloc(), 102)?;
+fn a_turn_draws_as_many_long_packets_as_there_are_buffers_for(rt: HostRuntime) {
+    let lens = longest(rt.alloc(), 102).expect(&rt, "memory");
     let counts = [76, 25, 76, 26, 102, 102];
     let errors = "error hand congestion 26\n";
-    assert_drawn(&rt, lens.as_slice(), 50, errors, counts)
+    assert_drawn(&rt, lens.as_slice(), 50, errors, counts);
+}
+
+/// The lengths of 102 packets, of which the 51st is too long, and the 53rd shorter than the others.
+fn longest_around(alloc: Global) -> Result<Vec<u16>, AllocError> {
+    let mut lens = longest(alloc, 50)?;
+    lens.extend_from_slice(&[9217, 9216, 6144, 9216])?;
+    lens.extend_from_slice(longest(alloc, 48)?.as_slice())?;
+    Ok(lens)
 }
 
 // Behind 25 packets three buffers are left. A packet that is too long takes one of them and gives it back, so the next packet, of 6,144 bytes, has all three.
 #[test]
-fn a_packet_that_is_too_long_leaves_its_buffer_to_the_next(rt: HostRuntime) -> Result<(), Fail> {
-    let mut lens = longest(rt.alloc(), 50)?;
-    lens.extend_from_slice(&[9217, 9216, 6144, 9216])?;
-    lens.extend_from_slice(longest(rt.alloc(), 48)?.as_slice())?;
+fn a_packet_that_is_too_long_leaves_its_buffer_to_the_next(rt: HostRuntime) {
+    let lens = longest_around(rt.alloc()).expect(&rt, "memory");
     let counts = [77, 26, 77, 25, 101, 102];
     let errors = "error pg-input too-long 1\nerror hand congestion 24\n";
-    assert_drawn(&rt, lens.as_slice(), 54, errors, counts)
+    assert_drawn(&rt, lens.as_slice(), 54, errors, counts);
 }

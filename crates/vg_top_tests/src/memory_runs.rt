@@ -3,7 +3,6 @@
 use std::alloc::{AllocError, Global};
 use std::process::Abort;
 use std::sync::Wait;
-use std::test::Fail;
 use std::thread::Threads;
 use vg_outside::{Gate, OpenGate, SureFolder, SureSink};
 use vg_top::{Done, RunEnd, vgd_run};
@@ -95,46 +94,46 @@ pub(crate) struct Ran {
 }
 
 /// Calls the program over a folder of these files, and a gate.
-pub(crate) fn run_gated<R: Wait + Threads + Sync + AllocGlobal, G: Gate>(
+pub(crate) fn run_gated<R: Abort + Wait + Threads + Sync + AllocGlobal, G: Gate>(
     rt: &R,
     words: &[&str],
     files: &[(&str, &[u8])],
     gate: &G,
-) -> Result<Ran, AllocError> {
+) -> Ran {
     let alloc = rt.alloc();
     let mut folder = SureFolder::new(alloc);
     for (name, bytes) in files {
-        folder.add(name, bytes)?;
+        folder.add(name, bytes).expect(rt, "memory");
     }
     let mut out = SureSink::new(alloc);
     let Done { status, ran, .. } = vgd_run(rt, alloc, words, &mut folder, &mut out, gate);
-    Ok(Ran {
+    Ran {
         status,
-        printed: out.written().to_vec(alloc)?,
+        printed: out.written().to_vec(alloc).expect(rt, "memory"),
         tx: match folder.file("t") {
-            Some(tx) => Some(tx.to_vec(alloc)?),
+            Some(tx) => Some(tx.to_vec(alloc).expect(rt, "memory")),
             None => None,
         },
         ran,
-    })
+    }
 }
 
 /// Calls the program over a folder of these files.
-pub(crate) fn run_with<R: Wait + Threads + Sync + AllocGlobal>(
+pub(crate) fn run_with<R: Abort + Wait + Threads + Sync + AllocGlobal>(
     rt: &R,
     words: &[&str],
     files: &[(&str, &[u8])],
-) -> Result<Ran, AllocError> {
+) -> Ran {
     run_gated(rt, words, files, &OpenGate)
 }
 
 /// Calls the program over a capture and a script.
-pub(crate) fn run_over<R: Wait + Threads + Sync + AllocGlobal>(
+pub(crate) fn run_over<R: Abort + Wait + Threads + Sync + AllocGlobal>(
     rt: &R,
     words: &[&str],
     capture: &[u8],
     script: &[u8],
-) -> Result<Ran, AllocError> {
+) -> Ran {
     run_with(rt, words, &[("c", capture), ("s", script)])
 }
 
@@ -142,13 +141,13 @@ pub(crate) fn run_over<R: Wait + Threads + Sync + AllocGlobal>(
 const CHECK: [&str; 5] = ["check", "c", "s", "t", "r"];
 
 /// What a check finds of what a run over a capture and a script saved and printed.
-pub(crate) fn check_of<'a, R: Wait + Threads + Sync + AllocGlobal>(
+pub(crate) fn check_of<'a, R: Abort + Wait + Threads + Sync + AllocGlobal>(
     rt: &R,
     capture: &'a [u8],
     script: &'a [u8],
     saved: &'a [u8],
     printed: &'a [u8],
-) -> Result<Ran, AllocError> {
+) -> Ran {
     let files: [(&str, &[u8]); 4] = [("c", capture), ("s", script), ("t", saved), ("r", printed)];
     run_with(rt, &CHECK, &files)
 }
@@ -161,14 +160,13 @@ pub(crate) fn assert_accepted<R: Abort + Wait + Threads + Sync + AllocGlobal>(
     script: &[u8],
     saved: &[u8],
     printed: &str,
-) -> Result<(), Fail> {
+) {
     assert_eq!(rt; ran.printed.as_slice(), printed.as_bytes());
     assert_eq!(rt; ran.status, 0);
-    assert_eq!(rt; ran.tx.ok_or("no savefile")?.as_slice(), saved);
-    let checked = check_of(rt, capture, script, saved, printed.as_bytes())?;
+    assert_eq!(rt; ran.tx.expect(rt, "no savefile").as_slice(), saved);
+    let checked = check_of(rt, capture, script, saved, printed.as_bytes());
     assert_eq!(rt; checked.printed.as_slice(), "yes\n".as_bytes());
     assert_eq!(rt; checked.status, 0);
-    Ok(())
 }
 
 /// So many workers.
@@ -196,19 +194,19 @@ pub(crate) fn saved_by<'a, R: Abort + Wait + Threads + Sync + AllocGlobal>(
     turns: &'a [u8],
     workers: &'a str,
     in_threads: bool,
-) -> Result<Vec<u8>, Fail> {
-    let words = words_of(rt.alloc(), workers, in_threads)?;
+) -> Vec<u8> {
+    let words = words_of(rt.alloc(), workers, in_threads).expect(rt, "memory");
     let files: [(&str, &[u8]); 3] = [("c", capture), ("s", script), ("u", turns)];
     let Ran {
         status,
         printed,
         tx,
         ran: _,
-    } = run_with(rt, words.as_slice(), &files)?;
+    } = run_with(rt, words.as_slice(), &files);
     assert_eq!(rt; status, 0);
-    let tx = tx.ok_or("no savefile")?;
-    let checked = check_of(rt, capture, script, tx.as_slice(), printed.as_slice())?;
+    let tx = tx.expect(rt, "no savefile");
+    let checked = check_of(rt, capture, script, tx.as_slice(), printed.as_slice());
     assert_eq!(rt; checked.printed.as_slice(), "yes\n".as_bytes());
     assert_eq!(rt; checked.status, 0);
-    Ok(tx)
+    tx
 }

@@ -4,7 +4,6 @@ use crate::memory_runs::{HEADER, RUN, WIRE, run_over};
 use std::alloc::{AllocError, Global};
 use std::process::Abort;
 use std::sync::Wait;
-use std::test::Fail;
 use std::thread::Threads;
 use vg_outside::{MemoryFolder, MemorySink, OpenGate};
 use vg_top::vgd_run;
@@ -17,13 +16,12 @@ fn assert_refused<R: Abort + Wait + Threads + Sync + AllocGlobal>(
     script: &[u8],
     status: u8,
     line: &str,
-) -> Result<(), Fail> {
-    let ran = run_over(rt, words, capture, script)?;
+) {
+    let ran = run_over(rt, words, capture, script);
     assert_eq!(rt; ran.printed.as_slice(), line.as_bytes());
     assert_eq!(rt; ran.status, status, "{line}");
     assert!(rt; ran.tx.is_none());
     assert!(rt; ran.ran.is_none());
-    Ok(())
 }
 
 /// So many lines, which differ in a number of two parts, by what stands before it, between its parts and behind it.
@@ -40,7 +38,7 @@ fn lines(alloc: Global, count: u32, around: [&str; 3]) -> Result<String, AllocEr
 }
 
 #[test]
-fn one_more_than_may_be_is_refused(rt: HostRuntime) -> Result<(), Fail> {
+fn one_more_than_may_be_is_refused(rt: HostRuntime) {
     let alloc = rt.alloc();
     let too_many = [
         (56, ["node n", ".", " kind pass"], "script 56 too-many\n"),
@@ -66,10 +64,10 @@ fn one_more_than_may_be_is_refused(rt: HostRuntime) -> Result<(), Fail> {
         ),
     ];
     for (count, around, line) in too_many {
-        let script = lines(alloc, count, around)?;
-        assert_refused(&rt, &RUN, &HEADER, script.as_str().as_bytes(), 5, line)?;
+        let script = lines(alloc, count, around).expect(&rt, "memory");
+        assert_refused(&rt, &RUN, &HEADER, script.as_str().as_bytes(), 5, line);
     }
-    let script = vec![in alloc; b'#'; 262_145]?;
+    let script = vec![in alloc; b'#'; 262_145].expect(&rt, "memory");
     assert_refused(
         &rt,
         &RUN,
@@ -77,7 +75,7 @@ fn one_more_than_may_be_is_refused(rt: HostRuntime) -> Result<(), Fail> {
         script.as_slice(),
         5,
         "script 0 too-large\n",
-    )
+    );
 }
 
 /// A run over a folder whose call of this number fails has this status and prints this line.
@@ -86,11 +84,11 @@ fn assert_fails<R: Abort + Wait + Threads + Sync + AllocGlobal>(
     failing: u64,
     status: u8,
     line: &str,
-) -> Result<(), Fail> {
+) {
     let alloc = rt.alloc();
-    let mut folder = MemoryFolder::new(alloc, vec![in alloc; failing]?);
-    folder.add("c", &HEADER)?;
-    folder.add("s", WIRE)?;
+    let mut folder = MemoryFolder::new(alloc, vec![in alloc; failing].expect(rt, "memory"));
+    folder.add("c", &HEADER).expect(rt, "memory");
+    folder.add("s", WIRE).expect(rt, "memory");
     let mut out = MemorySink::new(alloc, Vec::new(alloc), None);
     let answer = vgd_run(rt, alloc, &RUN, &mut folder, &mut out, &OpenGate);
     assert_eq!(rt; answer.status, status, "{line}");
@@ -98,13 +96,11 @@ fn assert_fails<R: Abort + Wait + Threads + Sync + AllocGlobal>(
     assert_eq!(rt; out.written(), line.as_bytes());
     assert_eq!(rt; folder.file("c"), Some(HEADER.as_slice()));
     assert!(rt; folder.file("t").is_none());
-    Ok(())
 }
 
 #[test]
-fn failed_loads_and_saves_are_told(rt: HostRuntime) -> Result<(), Fail> {
-    assert_fails(&rt, 0, 3, "load c\n")?;
-    assert_fails(&rt, 1, 3, "load s\n")?;
-    assert_fails(&rt, 2, 6, "save t\n")?;
-    Ok(())
+fn failed_loads_and_saves_are_told(rt: HostRuntime) {
+    assert_fails(&rt, 0, 3, "load c\n");
+    assert_fails(&rt, 1, 3, "load s\n");
+    assert_fails(&rt, 2, 6, "save t\n");
 }

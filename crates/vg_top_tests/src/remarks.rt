@@ -1,7 +1,6 @@
 //! What is remarked of a run stands at its end.
 
 use crate::memory_runs::{Frame, RUN, run_over, savefile};
-use std::test::Fail;
 
 /// A datagram to the limited broadcast.
 const BROADCAST: Frame<'static> = (
@@ -15,15 +14,18 @@ const SCRIPT: &[u8] =
     interface two mac 02:fe:00:00:00:02 mtu 1500 up filter\nat 10\nend\n";
 
 #[test]
-fn what_is_remarked_of_a_run_stands_at_its_end(rt: HostRuntime) -> Result<(), Fail> {
-    let capture = savefile(rt.alloc(), &[BROADCAST, BROADCAST])?;
-    let ran = run_over(&rt, &RUN, capture.as_slice(), SCRIPT)?;
+fn what_is_remarked_of_a_run_stands_at_its_end(rt: HostRuntime) {
+    let capture = savefile(rt.alloc(), &[BROADCAST, BROADCAST]).expect(&rt, "memory");
+    let ran = run_over(&rt, &RUN, capture.as_slice(), SCRIPT);
     assert_eq!(rt; ran.status, 0);
-    let remarks = ran.ran.ok_or("no end")?.remarks.ok_or("no remarks")?;
+    let remarks = ran
+        .ran
+        .expect(&rt, "no end")
+        .remarks
+        .expect(&rt, "no remarks");
     assert_eq!(rt; remarks.congested, 0);
     assert_eq!(rt; remarks.late.count, 1);
     assert_eq!(rt; remarks.filters.count, 1);
     assert_eq!(rt; remarks.filters.first, Some(3));
     assert_eq!(rt; remarks.unforwarded.count, 2);
-    Ok(())
 }

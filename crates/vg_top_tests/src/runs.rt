@@ -4,7 +4,6 @@ use crate::memory_runs::{FRAME, Frame, RUN, WIRE, savefile};
 use std::num::NonZeroUsize;
 use std::process::Abort;
 use std::sync::Wait;
-use std::test::Fail;
 use std::thread::Threads;
 use vg_outside::{MemorySink, OpenGate, SureFolder};
 use vg_top::vgd_run;
@@ -28,28 +27,37 @@ fn assert_front<R: Abort + Wait + Threads + Sync + AllocGlobal>(
     most: usize,
     failing: u64,
     printed: usize,
-) -> Result<(), Fail> {
+) {
     let alloc = rt.alloc();
     let mut folder = SureFolder::new(alloc);
-    folder.add("c", savefile(alloc, &[FRAME, FRAME, ARP])?.as_slice())?;
-    folder.add("s", WIRE)?;
-    let mut out = MemorySink::new(alloc, vec![in alloc; failing]?, NonZeroUsize::new(most));
+    folder
+        .add(
+            "c",
+            savefile(alloc, &[FRAME, FRAME, ARP])
+                .expect(rt, "memory")
+                .as_slice(),
+        )
+        .expect(rt, "memory");
+    folder.add("s", WIRE).expect(rt, "memory");
+    let mut out = MemorySink::new(
+        alloc,
+        vec![in alloc; failing].expect(rt, "memory"),
+        NonZeroUsize::new(most),
+    );
     let done = vgd_run(rt, alloc, &RUN, &mut folder, &mut out, &OpenGate);
     assert_eq!(rt; done.status, 7);
     assert!(rt; done.ran.is_none());
     assert_eq!(rt; Some(out.written()), REPORT.as_bytes().get(..printed));
-    assert_eq!(rt; folder.file("t").ok_or("no savefile")?.len(), 124);
-    Ok(())
+    assert_eq!(rt; folder.file("t").expect(rt, "no savefile").len(), 124);
 }
 
 #[test]
-fn a_failed_print_leaves_a_front(rt: HostRuntime) -> Result<(), Fail> {
+fn a_failed_print_leaves_a_front(rt: HostRuntime) {
     let last = REPORT.len() - 1;
-    assert_front(&rt, 100, 0, 0)?;
-    assert_front(&rt, 100, 1, 100)?;
-    assert_front(&rt, 100, last as u64 / 100, last / 100 * 100)?;
-    assert_front(&rt, 1, 0, 0)?;
-    assert_front(&rt, 1, 1, 1)?;
-    assert_front(&rt, 1, last as u64, last)?;
-    Ok(())
+    assert_front(&rt, 100, 0, 0);
+    assert_front(&rt, 100, 1, 100);
+    assert_front(&rt, 100, last as u64 / 100, last / 100 * 100);
+    assert_front(&rt, 1, 0, 0);
+    assert_front(&rt, 1, 1, 1);
+    assert_front(&rt, 1, last as u64, last);
 }

@@ -2,7 +2,6 @@
 
 use crate::memory_runs::{HEADER, WORKERS, bytes_of, saved_by};
 use std::alloc::{AllocError, Global};
-use std::test::Fail;
 
 /// A handoff by the destination between the node that takes a tag off and the one that puts one on.
 const BETWEEN: &str = "node cut kind dot1q-match-100\nnode hand kind handoff-dst\n\
@@ -23,13 +22,13 @@ fn add(alloc: Global, file: &mut Vec<u8>, tag: &str, host: u8) -> Result<(), All
 
 // Eight datagrams of VLAN 100 to hosts 10.1.2.0 to 10.1.2.7: any workers save them as VLAN 200, in order, and a check says yes.
 #[test]
-fn any_workers_save_the_same_tags(rt: HostRuntime) -> Result<(), Fail> {
+fn any_workers_save_the_same_tags(rt: HostRuntime) {
     let alloc = rt.alloc();
-    let mut capture = HEADER.to_vec(alloc)?;
-    let mut saved = HEADER.to_vec(alloc)?;
+    let mut capture = HEADER.to_vec(alloc).expect(&rt, "memory");
+    let mut saved = HEADER.to_vec(alloc).expect(&rt, "memory");
     for host in 0..8_u8 {
-        add(alloc, &mut capture, "8100 2064", host)?;
-        add(alloc, &mut saved, "8100 00c8", host)?;
+        add(alloc, &mut capture, "8100 2064", host).expect(&rt, "memory");
+        add(alloc, &mut saved, "8100 00c8", host).expect(&rt, "memory");
     }
     for workers in WORKERS {
         for in_threads in [false, true] {
@@ -40,9 +39,8 @@ fn any_workers_save_the_same_tags(rt: HostRuntime) -> Result<(), Fail> {
                 b"0m00",
                 workers,
                 in_threads,
-            )?;
+            );
             assert!(rt; tx == saved);
         }
     }
-    Ok(())
 }

@@ -5,7 +5,6 @@ use crate::memory_runs::{HEADER, Ran, run_with};
 use std::alloc::{AllocError, Global};
 use std::process::Abort;
 use std::sync::Wait;
-use std::test::Fail;
 use std::thread::Threads;
 use vg_model::{DropError, start};
 use vg_report::{Report, read_report};
@@ -116,13 +115,13 @@ struct Saved {
 }
 
 /// A run of this capture over the script, on so many workers, with so many packets a burst and these turns first.
-fn run_of<'a, R: Wait + Threads + Sync + AllocGlobal>(
+fn run_of<'a, R: Abort + Wait + Threads + Sync + AllocGlobal>(
     rt: &R,
     workers: &'a str,
     burst: &'a str,
     capture: &'a [u8],
     turns: &'a [u8],
-) -> Result<Ran, AllocError> {
+) -> Ran {
     let words = [
         "run",
         "--workers",
@@ -142,12 +141,12 @@ fn run_of<'a, R: Wait + Threads + Sync + AllocGlobal>(
 }
 
 /// A check of what such a run saved and printed.
-fn check_of<'a, R: Wait + Threads + Sync + AllocGlobal>(
+fn check_of<'a, R: Abort + Wait + Threads + Sync + AllocGlobal>(
     rt: &R,
     capture: &'a [u8],
     tx: &'a [u8],
     report: &'a [u8],
-) -> Result<Ran, AllocError> {
+) -> Ran {
     let words = ["check", "--queue", "256", "c", "s", "t", "r"];
     let files: [(&str, &[u8]); 4] = [("c", capture), ("s", SCRIPT), ("t", tx), ("r", report)];
     run_with(rt, &words, &files)
@@ -159,24 +158,24 @@ fn forwarded<R: Abort + Wait + Threads + Sync + AllocGlobal>(
     workers: &str,
     burst: &str,
     turns: &[u8],
-) -> Result<Saved, Fail> {
+) -> Saved {
     let alloc = rt.alloc();
-    let capture = generated(alloc, 2000)?;
+    let capture = generated(alloc, 2000).expect(rt, "memory");
     let Ran {
         status,
         printed,
         tx,
         ran: _,
-    } = run_of(rt, workers, burst, capture.as_slice(), turns)?;
+    } = run_of(rt, workers, burst, capture.as_slice(), turns);
     assert_eq!(rt; status, 0);
-    let tx = tx.ok_or("no savefile")?;
-    let checked = check_of(rt, capture.as_slice(), tx.as_slice(), printed.as_slice())?;
+    let tx = tx.expect(rt, "no savefile");
+    let checked = check_of(rt, capture.as_slice(), tx.as_slice(), printed.as_slice());
     assert_eq!(rt; checked.printed.as_slice(), "yes\n".as_bytes());
     assert_eq!(rt; checked.status, 0);
-    let report = read_report(alloc, printed.as_slice())?;
+    let report = read_report(alloc, printed.as_slice()).expect(rt, "a report");
     assert_eq!(rt; report.buffers, 4096);
     assert_eq!(rt; report.packets.len(), 2000);
-    Ok(Saved { tx, report })
+    Saved { tx, report }
 }
 
 /// How often packets were handed over; none was refused by a full queue.
@@ -216,8 +215,8 @@ fn transmitted(report: &Report) -> u64 {
 }
 
 #[test]
-fn frames_are_like_single_packets(rt: HostRuntime) -> Result<(), Fail> {
-    let alone = forwarded(&rt, "1", "256", b"")?;
+fn frames_are_like_single_packets(rt: HostRuntime) {
+    let alone = forwarded(&rt, "1", "256", b"");
     assert_eq!(rt; handed(&rt, &alone.report), 0);
     assert_eq!(rt; visits(&alone.report, HANDOFF_DEQUEUE), Some(0));
 
@@ -230,7 +229,6 @@ fn frames_are_like_single_packets(rt: HostRuntime) -> Result<(), Fail> {
         }
     }
     assert!(rt; errors >= 10);
-    Ok(())
 }
 
 /// Whether the interfaces of two reports transmitted as many packets, and the nodes dropped as many with each error.
@@ -256,8 +254,8 @@ fn assert_alike<R: Abort + Wait + Threads + Sync + AllocGlobal>(
     workers: &str,
     burst: &str,
     turns: &[u8],
-) -> Result<(), Fail> {
-    let several = forwarded(rt, workers, burst, turns)?;
+) {
+    let several = forwarded(rt, workers, burst, turns);
     assert!(rt; several.tx == alone.tx);
     assert!(rt; have_same_ends(&alone.report, &several.report));
     let nodes = alone.report.nodes.as_slice().len();
@@ -270,14 +268,13 @@ fn assert_alike<R: Abort + Wait + Threads + Sync + AllocGlobal>(
     let handed = handed(rt, &several.report);
     assert_eq!(rt; visits(&several.report, HANDOFF_DEQUEUE), Some(handed));
     assert!(rt; handed > 1000);
-    Ok(())
 }
 
 #[test]
-fn several_workers_send_what_one_sends(rt: HostRuntime) -> Result<(), Fail> {
-    let alone = forwarded(&rt, "1", "256", b"")?;
-    assert_alike(&rt, &alone, "2", "256", b"")?;
-    assert_alike(&rt, &alone, "2", "32", b"00001111m01")?;
-    assert_alike(&rt, &alone, "3", "64", b"2221")?;
-    assert_alike(&rt, &alone, "8", "256", b"")
+fn several_workers_send_what_one_sends(rt: HostRuntime) {
+    let alone = forwarded(&rt, "1", "256", b"");
+    assert_alike(&rt, &alone, "2", "256", b"");
+    assert_alike(&rt, &alone, "2", "32", b"00001111m01");
+    assert_alike(&rt, &alone, "3", "64", b"2221");
+    assert_alike(&rt, &alone, "8", "256", b"");
 }

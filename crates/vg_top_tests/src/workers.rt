@@ -7,7 +7,6 @@ use std::alloc::{AllocError, Global};
 use std::num::NonZeroUsize;
 use std::process::Abort;
 use std::sync::Wait;
-use std::test::Fail;
 use std::thread::Threads;
 use vg_outside::{MeetGate, MemoryFolder, MemorySink, OpenGate};
 use vg_top::vgd_run;
@@ -52,39 +51,38 @@ pub(crate) fn assert_ran<R: Abort + AllocGlobal>(
     report: &str,
     tx: &[u8],
     generations: u64,
-) -> Result<(), Fail> {
+) {
     assert_eq!(rt; ran.printed.as_slice(), report.as_bytes());
     assert_eq!(rt; ran.status, 0);
-    assert_eq!(rt; ran.tx.ok_or("no savefile")?.as_slice(), tx);
-    let end = ran.ran.ok_or("no end")?;
+    assert_eq!(rt; ran.tx.expect(rt, "no savefile").as_slice(), tx);
+    let end = ran.ran.expect(rt, "no end");
     assert_eq!(rt; end.rests.as_slice().len(), 2);
     assert!(rt; end.seat.stamp() >= generations);
-    Ok(())
 }
 
 #[test]
-fn packets_are_handed_to_another_worker(rt: HostRuntime) -> Result<(), Fail> {
+fn packets_are_handed_to_another_worker(rt: HostRuntime) {
     let alloc = rt.alloc();
-    let capture = savefile(alloc, &[TO_1, TO_1, TO_1, TO_1])?;
+    let capture = savefile(alloc, &[TO_1, TO_1, TO_1, TO_1]).expect(&rt, "memory");
     let words = ["run", "--workers", "2", "c", "s", "t"];
-    let ran = run_over(&rt, &words, capture.as_slice(), HAND)?;
+    let ran = run_over(&rt, &words, capture.as_slice(), HAND);
     let lines = "packet 0 0:0,1:0 tx pg0\npacket 1 1:0 tx pg0\n\
         packet 2 0:0,1:0 tx pg0\npacket 3 1:0 tx pg0\n";
-    let report = report(alloc, [4096, 1, 4], [4, 2, 4, 0, 4, 4], lines)?;
+    let report = report(alloc, [4096, 1, 4], [4, 2, 4, 0, 4, 4], lines).expect(&rt, "memory");
 
     // One worker saves the same.
-    let alone = run_over(&rt, &RUN, capture.as_slice(), HAND)?;
+    let alone = run_over(&rt, &RUN, capture.as_slice(), HAND);
     assert_eq!(rt; alone.status, 0);
-    assert_eq!(rt; alone.ran.ok_or("no end")?.rests.as_slice().len(), 0);
-    let tx = alone.tx.ok_or("no savefile")?;
+    assert_eq!(rt; alone.ran.expect(&rt, "no end").rests.as_slice().len(), 0);
+    let tx = alone.tx.expect(&rt, "no savefile");
     assert_eq!(rt; tx, capture);
-    assert_ran(&rt, ran, report.as_str(), tx.as_slice(), 1)
+    assert_ran(&rt, ran, report.as_str(), tx.as_slice(), 1);
 }
 
 #[test]
-fn a_full_queue_drops_a_packet_with_its_count(rt: HostRuntime) -> Result<(), Fail> {
+fn a_full_queue_drops_a_packet_with_its_count(rt: HostRuntime) {
     let alloc = rt.alloc();
-    let capture = savefile(alloc, &[TO_1, TO_1, TO_1, TO_1, TO_1])?;
+    let capture = savefile(alloc, &[TO_1, TO_1, TO_1, TO_1, TO_1]).expect(&rt, "memory");
     let words = [
         "run",
         "--workers",
@@ -100,16 +98,16 @@ fn a_full_queue_drops_a_packet_with_its_count(rt: HostRuntime) -> Result<(), Fai
         "t",
     ];
     let files: [(&str, &[u8]); 3] = [("c", capture.as_slice()), ("s", HAND), ("u", b"0010")];
-    let ran = run_with(&rt, &words, &files)?;
+    let ran = run_with(&rt, &words, &files);
     let lines = "error hand congestion 1\n\
         packet 0 0:0,1:0 tx pg0\npacket 1 1:0 tx pg0\n\
         packet 2 0:0 congested 1 drop hand congestion\npacket 3 1:0 tx pg0\n\
         packet 4 0:0,1:0 tx pg0\n";
-    let report = report(alloc, [4096, 1, 5], [4, 2, 4, 1, 5, 5], lines)?;
-    let tx = savefile(alloc, &[TO_1, TO_1, TO_1, TO_1])?;
-    let end = ran.ran.as_ref().ok_or("no end")?;
-    assert_eq!(rt; end.remarks.ok_or("no remarks")?.congested, 1);
-    assert_ran(&rt, ran, report.as_str(), tx.as_slice(), 1)
+    let report = report(alloc, [4096, 1, 5], [4, 2, 4, 1, 5, 5], lines).expect(&rt, "memory");
+    let tx = savefile(alloc, &[TO_1, TO_1, TO_1, TO_1]).expect(&rt, "memory");
+    let end = ran.ran.as_ref().expect(&rt, "no end");
+    assert_eq!(rt; end.remarks.expect(&rt, "no remarks").congested, 1);
+    assert_ran(&rt, ran, report.as_str(), tx.as_slice(), 1);
 }
 
 /// The words of a run by two workers, with a turns file.
@@ -126,20 +124,20 @@ const LATE_REPORT: &str = "vgd report 1\nworkers 2\nbuffers 4096\ngenerations 2\
     packet 0 0:0,1:1 drop error-drop blackhole\npacket 1 1:1 drop error-drop blackhole\nend\n";
 
 #[test]
-fn a_packet_meets_the_generation_of_the_worker_that_takes_it(rt: HostRuntime) -> Result<(), Fail> {
+fn a_packet_meets_the_generation_of_the_worker_that_takes_it(rt: HostRuntime) {
     let alloc = rt.alloc();
-    let capture = savefile_at(alloc, TO_1, &[0, 1000])?;
+    let capture = savefile_at(alloc, TO_1, &[0, 1000]).expect(&rt, "memory");
     let files: [(&str, &[u8]); 3] = [
         ("c", capture.as_slice()),
         ("s", HAND_UP_TO_1000),
         ("u", LATE),
     ];
-    let ran = run_with(&rt, &BY_TURNS, &files)?;
-    assert_ran(&rt, ran, LATE_REPORT, &HEADER, 2)
+    let ran = run_with(&rt, &BY_TURNS, &files);
+    assert_ran(&rt, ran, LATE_REPORT, &HEADER, 2);
 }
 
 #[test]
-fn a_packet_has_four_legs_at_most(rt: HostRuntime) -> Result<(), Fail> {
+fn a_packet_has_four_legs_at_most(rt: HostRuntime) {
     let script = b"node h1 kind handoff-dst\nnode h2 kind handoff-src\nnode h3 kind handoff-dst\n\
         node h4 kind handoff-src\nnode h5 kind handoff-dst\n\
         arc h1 resume h2\narc h2 resume h3\narc h3 resume h4\narc h4 resume h5\n\
@@ -148,16 +146,16 @@ fn a_packet_has_four_legs_at_most(rt: HostRuntime) -> Result<(), Fail> {
         "02fe00000000 020000000001 0800 4500001400000000 401166d7 0a000002 0a000001",
         34,
     );
-    let capture = savefile(rt.alloc(), &[frame])?;
+    let capture = savefile(rt.alloc(), &[frame]).expect(&rt, "memory");
     let words = ["run", "--workers", "2", "c", "s", "t"];
-    let ran = run_over(&rt, &words, capture.as_slice(), script)?;
+    let ran = run_over(&rt, &words, capture.as_slice(), script);
     let report = "vgd report 1\nworkers 2\nbuffers 4096\ngenerations 1\npackets 1\n\
         interface 0 pg0 tx 0\nnode 0 pg-input 1\nnode 1 handoff-dequeue 3\nnode 2 ethernet-input 0\n\
         node 3 ip4-input 0\nnode 4 ip4-lookup 0\nnode 5 ip4-rewrite 0\nnode 6 interface-output 0\n\
         node 7 interface-tx 0\nnode 8 error-drop 1\nnode 9 h1 1\nnode 10 h2 1\nnode 11 h3 1\n\
         node 12 h4 1\nnode 13 h5 0\nerror h4 handoff-limit 1\n\
         packet 0 0:0,1:0,0:0,1:0 drop h4 handoff-limit\nend\n";
-    assert_ran(&rt, ran, report, &HEADER, 1)
+    assert_ran(&rt, ran, report, &HEADER, 1);
 }
 
 /// The packets of four workers: packet i goes to 10.0.k.9, where k is i mod 12, at i * 100 microseconds.
@@ -230,48 +228,63 @@ fn crossed(alloc: Global) -> Result<String, AllocError> {
 }
 
 #[test]
-fn four_workers_hand_over_every_packet(rt: HostRuntime) -> Result<(), Fail> {
+fn four_workers_hand_over_every_packet(rt: HostRuntime) {
     let alloc = rt.alloc();
     let macs = ["02fe00000000 020000000001"; 2];
-    let capture = rounds(alloc, 300, 64, 0xae, macs)?;
-    let script = crossing(alloc)?;
+    let capture = rounds(alloc, 300, 64, 0xae, macs).expect(&rt, "memory");
+    let script = crossing(alloc).expect(&rt, "memory");
     let script = script.as_str().as_bytes();
     let words = ["run", "--workers", "4", "--trace", "3", "c", "s", "t"];
-    let ran = run_over(&rt, &words, capture.as_slice(), script)?;
-    let report = crossed(alloc)?;
+    let ran = run_over(&rt, &words, capture.as_slice(), script);
+    let report = crossed(alloc).expect(&rt, "memory");
     let macs = ["02000000000e 02fe00000000", "02000000000f 02fe00000001"];
-    let tx = rounds(alloc, 300, 63, 0xaf, macs)?;
+    let tx = rounds(alloc, 300, 63, 0xaf, macs).expect(&rt, "memory");
     assert_eq!(rt; ran.printed.as_slice(), report.as_str().as_bytes());
     assert_eq!(rt; ran.status, 0);
-    assert_eq!(rt; ran.tx.ok_or("no savefile")?, tx);
-    assert_eq!(rt; ran.ran.ok_or("no end")?.rests.as_slice().len(), 12);
+    assert_eq!(rt; ran.tx.expect(&rt, "no savefile"), tx);
+    assert_eq!(rt; ran.ran.expect(&rt, "no end").rests.as_slice().len(), 12);
 
     // A sink whose third call fails has the first two pieces.
     let mut folder = MemoryFolder::new(alloc, Vec::new(alloc));
-    folder.add("c", capture.as_slice())?;
-    folder.add("s", script)?;
-    let mut out = MemorySink::new(alloc, vec![in alloc; 2_u64]?, NonZeroUsize::new(100));
+    folder.add("c", capture.as_slice()).expect(&rt, "memory");
+    folder.add("s", script).expect(&rt, "memory");
+    let mut out = MemorySink::new(
+        alloc,
+        vec![in alloc; 2_u64].expect(&rt, "memory"),
+        NonZeroUsize::new(100),
+    );
     let done = vgd_run(&rt, alloc, &words, &mut folder, &mut out, &OpenGate);
     assert_eq!(rt; done.status, 7);
     assert_eq!(rt; Some(out.written()), report.as_str().as_bytes().get(..200));
     assert_eq!(rt; folder.file("t"), Some(tx.as_slice()));
-    Ok(())
 }
 
-#[test]
-fn an_empty_pool_leaves_packets_for_later(rt: HostRuntime) -> Result<(), Fail> {
-    let alloc = rt.alloc();
-    let mut file = HEADER.to_vec(alloc)?;
-    let record = savefile(alloc, &[TO_1])?;
-    for _ in 0..1600 {
-        file.extend_from_slice(record.as_slice().get(24..).ok_or("no record")?)?;
-    }
+/// The lines of so many packets, all sent, of which worker 0 hands its own over.
+pub(crate) fn all_sent(alloc: Global, count: u32) -> Result<String, AllocError> {
     let mut lines = String::new(alloc);
-    for number in 0..1600_u32 {
+    for number in 0..count {
         let legs = if number % 2 == 0 { "0:0,1:0" } else { "1:0" };
         let line = format!(in alloc; "packet {number} {legs} tx pg0\n")?;
         lines.push_str(line.as_str())?;
     }
+    Ok(lines)
+}
+
+/// The savefile of one frame so many times.
+fn repeated(alloc: Global, count: u32) -> Result<Vec<u8>, AllocError> {
+    let mut file = HEADER.to_vec(alloc)?;
+    let record = savefile(alloc, &[TO_1])?;
+    for _ in 0..count {
+        file.extend_from_slice(record.as_slice().get(HEADER.len()..).unwrap_or(&[]))?;
+    }
+    Ok(file)
+}
+
+#[test]
+fn an_empty_pool_leaves_packets_for_later(rt: HostRuntime) {
+    let alloc = rt.alloc();
+    let file = repeated(alloc, 1600).expect(&rt, "memory");
+    let lines = all_sent(alloc, 1600).expect(&rt, "memory");
     let words = [
         "run",
         "--workers",
@@ -285,20 +298,21 @@ fn an_empty_pool_leaves_packets_for_later(rt: HostRuntime) -> Result<(), Fail> {
         "t",
     ];
     let files: [(&str, &[u8]); 3] = [("c", file.as_slice()), ("s", HAND), ("u", b"0000000")];
-    let ran = run_with(&rt, &words, &files)?;
+    let ran = run_with(&rt, &words, &files);
     let report = report(
         alloc,
         [768, 1, 1600],
         [1600, 800, 1600, 0, 1600, 1600],
         lines.as_str(),
-    )?;
-    assert_ran(&rt, ran, report.as_str(), file.as_slice(), 1)
+    )
+    .expect(&rt, "memory");
+    assert_ran(&rt, ran, report.as_str(), file.as_slice(), 1);
 }
 
 #[test]
-fn a_queue_of_two_slots_refuses_a_third_frame(rt: HostRuntime) -> Result<(), Fail> {
+fn a_queue_of_two_slots_refuses_a_third_frame(rt: HostRuntime) {
     let alloc = rt.alloc();
-    let capture = savefile(alloc, &[TO_1; 6])?;
+    let capture = savefile(alloc, &[TO_1; 6]).expect(&rt, "memory");
     let words = [
         "run",
         "--workers",
@@ -314,13 +328,22 @@ fn a_queue_of_two_slots_refuses_a_third_frame(rt: HostRuntime) -> Result<(), Fai
         "t",
     ];
     let files: [(&str, &[u8]); 3] = [("c", capture.as_slice()), ("s", HAND), ("u", b"000")];
-    let ran = run_with(&rt, &words, &files)?;
+    let ran = run_with(&rt, &words, &files);
     let lines = "error hand congestion 1\n\
         packet 0 0:0,1:0 tx pg0\npacket 1 1:0 tx pg0\npacket 2 0:0,1:0 tx pg0\n\
         packet 3 1:0 tx pg0\npacket 4 0:0 congested 2 drop hand congestion\npacket 5 1:0 tx pg0\n";
-    let report = report(alloc, [4096, 1, 6], [5, 2, 5, 1, 6, 6], lines)?;
-    let tx = savefile(alloc, &[TO_1; 5])?;
-    assert_ran(&rt, ran, report.as_str(), tx.as_slice(), 1)
+    let report = report(alloc, [4096, 1, 6], [5, 2, 5, 1, 6, 6], lines).expect(&rt, "memory");
+    let tx = savefile(alloc, &[TO_1; 5]).expect(&rt, "memory");
+    assert_ran(&rt, ran, report.as_str(), tx.as_slice(), 1);
+}
+
+/// The list of a call that is to fail, or of none.
+fn calls(alloc: Global, failing: Option<u64>) -> Result<Vec<u64>, AllocError> {
+    let mut calls = Vec::new(alloc);
+    if let Some(call) = failing {
+        calls.push(call)?;
+    }
+    Ok(calls)
 }
 
 /// A run by turns over a folder whose call of this number fails, and a sink that takes so many bytes a call and whose call of this
@@ -333,21 +356,15 @@ fn assert_faults<R: Abort + Wait + Threads + Sync + AllocGlobal>(
     status: u8,
     printed: &[u8],
     is_saved: bool,
-) -> Result<(), Fail> {
+) {
     let alloc = rt.alloc();
-    let mut faults = Vec::new(alloc);
-    if let Some(call) = failing_file {
-        faults.push(call)?;
-    }
-    let capture = savefile_at(alloc, TO_1, &[0, 1000])?;
+    let faults = calls(alloc, failing_file).expect(rt, "memory");
+    let capture = savefile_at(alloc, TO_1, &[0, 1000]).expect(rt, "memory");
     let mut folder = MemoryFolder::new(alloc, faults);
-    folder.add("c", capture.as_slice())?;
-    folder.add("s", HAND_UP_TO_1000)?;
-    folder.add("u", LATE)?;
-    let mut faults = Vec::new(alloc);
-    if let Some(call) = failing_print {
-        faults.push(call)?;
-    }
+    folder.add("c", capture.as_slice()).expect(rt, "memory");
+    folder.add("s", HAND_UP_TO_1000).expect(rt, "memory");
+    folder.add("u", LATE).expect(rt, "memory");
+    let faults = calls(alloc, failing_print).expect(rt, "memory");
     let mut out = MemorySink::new(alloc, faults, NonZeroUsize::new(most));
     let done = vgd_run(rt, alloc, &BY_TURNS, &mut folder, &mut out, &OpenGate);
     assert_eq!(rt; done.status, status);
@@ -355,40 +372,38 @@ fn assert_faults<R: Abort + Wait + Threads + Sync + AllocGlobal>(
     assert_eq!(rt; out.written(), printed);
     assert_eq!(rt; folder.file("t").is_some(), is_saved);
     assert_eq!(rt; folder.file("c"), Some(capture.as_slice()));
-    Ok(())
 }
 
 #[test]
-fn faults_of_the_folder_are_told(rt: HostRuntime) -> Result<(), Fail> {
-    assert_faults(&rt, Some(0), 100, None, 3, b"load c\n", false)?;
-    assert_faults(&rt, Some(1), 100, None, 3, b"load s\n", false)?;
-    assert_faults(&rt, Some(2), 100, None, 3, b"load u\n", false)?;
-    assert_faults(&rt, Some(3), 100, None, 6, b"save t\n", false)?;
-    assert_faults(&rt, Some(3), 100, Some(0), 7, b"", false)
+fn faults_of_the_folder_are_told(rt: HostRuntime) {
+    assert_faults(&rt, Some(0), 100, None, 3, b"load c\n", false);
+    assert_faults(&rt, Some(1), 100, None, 3, b"load s\n", false);
+    assert_faults(&rt, Some(2), 100, None, 3, b"load u\n", false);
+    assert_faults(&rt, Some(3), 100, None, 6, b"save t\n", false);
+    assert_faults(&rt, Some(3), 100, Some(0), 7, b"", false);
 }
 
 #[test]
-fn faults_of_the_sink_leave_a_front(rt: HostRuntime) -> Result<(), Fail> {
+fn faults_of_the_sink_leave_a_front(rt: HostRuntime) {
     let report = LATE_REPORT.as_bytes();
     assert_eq!(rt; report.len(), 405);
     for call in 0..5_u64 {
-        let front = report.get(..call as usize * 100).ok_or("too short")?;
-        assert_faults(&rt, None, 100, Some(call), 7, front, true)?;
+        let front = report.get(..call as usize * 100).expect(&rt, "too short");
+        assert_faults(&rt, None, 100, Some(call), 7, front, true);
     }
-    assert_faults(&rt, None, 100, Some(5), 0, report, true)?;
-    assert_faults(&rt, None, 1, None, 0, report, true)
+    assert_faults(&rt, None, 100, Some(5), 0, report, true);
+    assert_faults(&rt, None, 1, None, 0, report, true);
 }
 
 #[test]
-fn two_workers_run_at_once(rt: HostRuntime) -> Result<(), Fail> {
-    let capture = savefile(rt.alloc(), &[TO_1, TO_1])?;
+fn two_workers_run_at_once(rt: HostRuntime) {
+    let capture = savefile(rt.alloc(), &[TO_1, TO_1]).expect(&rt, "memory");
     let words = ["run", "--workers", "2", "c", "s", "t"];
     let gate = MeetGate::new();
     let files: [(&str, &[u8]); 2] = [("c", capture.as_slice()), ("s", HAND)];
-    let ran = run_gated(&rt, &words, &files, &gate)?;
+    let ran = run_gated(&rt, &words, &files, &gate);
     assert_eq!(rt; ran.status, 0);
-    assert_eq!(rt; ran.tx.ok_or("no savefile")?, capture);
+    assert_eq!(rt; ran.tx.expect(&rt, "no savefile"), capture);
     assert_eq!(rt; gate.met(), 2);
     assert_eq!(rt; gate.given_up(), 0);
-    Ok(())
 }
