@@ -1,6 +1,6 @@
 -- For the clause of `FrameStore::put_each`, and for those of `Work::{draw_own, take_frame, put_apart, group}` of vg_underway:
 -- How many indexes wait in all.
-use Rattle.std.proofs.Common.{◌≡◌, ℕ, ◌+◌, ◌<◌, List, [], ◌∷◌, ◌++◌, length, map, set, ap, ◌∙◌, arith, append_assoc}
+use Rattle.std.proofs.Common.{◌≡◌, ℕ, ◌+◌, ◌<◌, List, [], ◌∷◌, ◌++◌, length, set, ap, ◌∙◌, arith, append_assoc}
 use Rattle.std.proofs.lemmas.List.{length-append, append-nil, get_or-set_same, set-get_or, set-set}
 use Rattle.std.proofs.lemmas.List.Sums.{sum_by-set}
 use Rattle.vg_frame.specs.Pending.{pending_at, pending_count}
@@ -15,10 +15,10 @@ pending_count-put pending node index within =
 pub put_none : (pending : List (List ℕ)) (node : ℕ) → set pending node (pending_at pending node ++ []) ≡ pending
 put_none pending node = ap (set pending node) (append-nil (pending_at pending node)) ∙ set-get_or pending node []
 
--- entries that are none put no index
-pub put_nothing : {X : Type 0} (pending : List (List ℕ)) (node : ℕ) (entries : List (ℕ × X)) → length entries ≡ 0 → set pending node (pending_at pending node ++ map (λ (entry : ℕ × X). entry.0) entries) ≡ pending
+-- no indexes, put as a list
+pub put_nothing : (pending : List (List ℕ)) (node : ℕ) (indexes : List ℕ) → length indexes ≡ 0 → set pending node (pending_at pending node ++ indexes) ≡ pending
 put_nothing pending node [] none = put_none pending node
-put_nothing pending node (entry ∷ entries) none = absurd (omega (arith, none))
+put_nothing pending node (index ∷ indexes) none = absurd (omega (arith, none))
 
 pub put_more : (pending : List (List ℕ)) (node : ℕ) (xs ys : List ℕ) → node < length pending
     → set (set pending node (pending_at pending node ++ xs)) node (pending_at (set pending node (pending_at pending node ++ xs)) node ++ ys) ≡ set pending node (pending_at pending node ++ (xs ++ ys))

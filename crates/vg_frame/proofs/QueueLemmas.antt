@@ -1,9 +1,9 @@
 -- For `Frame::push_each` and `Queue::{is_empty, room, push, push_within, push_each, pop}`: what full frames, with the newest indexes behind them, make
 -- of the list of indexes.
-use Rattle.std.proofs.Common.{◌≡◌, ℕ, suc, ◌+◌, ◌*◌, ◌<◌, ◌≤◌, List, [], ◌∷◌, ◌++◌, length, map, get_or, take, drop, remove, refl, sym, ap, ◌∙◌, arith, append_assoc, length-append}
+use Rattle.std.proofs.Common.{◌≡◌, ℕ, suc, ◌+◌, ◌*◌, ◌<◌, ◌≤◌, List, [], ◌∷◌, ◌++◌, length, get_or, take, drop, remove, refl, sym, ap, ◌∙◌, arith, append_assoc, length-append}
 use Rattle.std.specs.List.{All, flat_map}
 use Rattle.std.proofs.Math.Seq.{take-append_seam, drop-append_seam}
-use Rattle.std.proofs.lemmas.List.{append-nil, length-map, map-append, take_all, take_more, drop_all}
+use Rattle.std.proofs.lemmas.List.{append-nil, take_all, drop_all}
 use Rattle.std.proofs.lemmas.List.Elements.{All-push}
 use Rattle.std.proofs.lemmas.List.Concat.{flat_map-cons}
 use Rattle.vg_frame.specs.Pending.{frame_size}
@@ -67,43 +67,19 @@ module _ {X : Type 0} (f : X → List ℕ) where
   AllFull-rest [] full = full
   AllFull-rest (x ∷ xs) full = AllFull-tail x xs full
 
--- the indexes of entries, and of the first so many
-abbrev pub all_firsts : {X : Type 0} → List (ℕ × X) → List ℕ
-all_firsts {X} entries = map (λ (entry : ℕ × X). entry.0) entries
-
-abbrev pub firsts : {X : Type 0} → ℕ → List (ℕ × X) → List ℕ
-firsts k entries = all_firsts (take k entries)
-
-firsts_more : {X : Type 0} (entries : List (ℕ × X)) (k : ℕ) (d : ℕ × X) → k < length entries → firsts (k + 1) entries ≡ firsts k entries ++ (get_or entries k d).0 ∷ []
-firsts_more {X} entries k d inside = ap (map (λ (entry : ℕ × X). entry.0)) (take_more entries k d inside) ∙ map-append (λ (entry : ℕ × X). entry.0) (take k entries) (get_or entries k d ∷ [])
-
--- the next entry's index behind those of the first entries
-pub first_pushed : {X : Type 0} (old now new : List ℕ) (entries : List (ℕ × X)) (k : ℕ) (entry : ℕ × X) → k < length entries → entry ≡ get_or entries k entry
-    → now ≡ old ++ firsts k entries → new ≡ now ++ entry.0 ∷ [] → new ≡ old ++ firsts (k + 1) entries
-first_pushed old now new entries k entry inside here is pushed =
-    pushed
-    ∙ (ap (λ xs. xs ++ entry.0 ∷ []) is
-    ∙ (append_assoc old (firsts k entries) (entry.0 ∷ [])
-    ∙ ap (λ xs. old ++ xs) (ap (λ e. firsts k entries ++ e.0 ∷ []) here ∙ sym (firsts_more entries k entry inside))))
-
--- how many entries are left, where they make with what waits what they all make with what waited
-pub left_len : {X : Type 0} (old now : List ℕ) (entries left : List (ℕ × X)) → now ++ all_firsts left ≡ old ++ all_firsts entries → length now + length left ≡ length old + length entries
-left_len {X} old now entries left is =
-    let here = length-append now (all_firsts left) in
-    let there = length-append old (all_firsts entries) in
-    let few = length-map left (λ (entry : ℕ × X). entry.0) in
-    let all = length-map entries (λ (entry : ℕ × X). entry.0) in
+-- how many indexes are left, where they make with what waits what they all make with what waited
+pub left_len : (old now indexes left : List ℕ) → now ++ left ≡ old ++ indexes → length now + length left ≡ length old + length indexes
+left_len old now indexes left is =
+    let here = length-append now left in
+    let there = length-append old indexes in
     let same = ap length is in
-    omega (arith, here, there, few, all, same)
+    omega (arith, here, there, same)
 
 -- the first of them wait too
-pub left_pushed : {X : Type 0} (now new : List ℕ) (left front behind : List (ℕ × X)) → left ≡ front ++ behind → new ≡ now ++ all_firsts front → new ++ all_firsts behind ≡ now ++ all_firsts left
-left_pushed {X} now new left front behind parts pushed =
-    ap (λ xs. xs ++ all_firsts behind) pushed
-    ∙ (append_assoc now (all_firsts front) (all_firsts behind)
-    ∙ ap (λ xs. now ++ xs) (sym (map-append (λ (entry : ℕ × X). entry.0) front behind) ∙ ap (map (λ (entry : ℕ × X). entry.0)) (sym parts)))
+pub left_pushed : (now new left front behind : List ℕ) → left ≡ front ++ behind → new ≡ now ++ front → new ++ behind ≡ now ++ left
+left_pushed now new left front behind parts pushed = ap (λ xs. xs ++ behind) pushed ∙ (append_assoc now front behind ∙ ap (λ xs. now ++ xs) (sym parts))
 
 -- none is left
-pub left_none : {X : Type 0} (now all : List ℕ) (left : List (ℕ × X)) → length left ≡ 0 → now ++ all_firsts left ≡ all → now ≡ all
+pub left_none : (now all left : List ℕ) → length left ≡ 0 → now ++ left ≡ all → now ≡ all
 left_none now all [] none is = sym (append-nil now) ∙ is
-left_none now all (entry ∷ left) none is = absurd (omega (arith, none))
+left_none now all (index ∷ left) none is = absurd (omega (arith, none))

@@ -1,5 +1,5 @@
 //! Frames.
-ghost use Rattle.std.specs.Prelude.{◌≡◌, ◌+◌, ◌<◌, ◌≤◌, [], ◌∷◌, ◌++◌, length, map};
+ghost use Rattle.std.specs.Prelude.{◌≡◌, ◌+◌, ◌<◌, ◌≤◌, [], ◌∷◌, ◌++◌, length};
 ghost use Rattle.vg_frame.specs.Pending.{frame_size};
 
 use std::marker::Model;
@@ -59,18 +59,22 @@ impl Frame {
         self.len += 1;
     }
 
-    /// Adds the indexes of these entries behind the others, in their order.
+    /// Adds these indexes behind the others, in their order.
     #[inline]
-    pub(crate) fn push_each<T: Copy>(&mut self, entries: &[(u32, T)])
-        requires { length self.old + length entries.now ≤ frame_size }
-        ensures { self.new ≡ self.old ++ map (λ entry. entry.0) entries.now }
+    pub fn push_each(&mut self, indexes: &[u32])
+        requires { length self.old + length indexes.now ≤ frame_size }
+        ensures { self.new ≡ self.old ++ indexes.now }
     {
-        let mut at = self.len;
-        for (index, _) in entries {
-            self.places[at] = *index;
-            at += 1;
-        }
-        self.len = at;
+        let end = self.len + indexes.len();
+        self.places[self.len..end].copy_from_slice(indexes);
+        self.len = end;
+    }
+
+    /// Removes all indexes.
+    pub fn clear(&mut self)
+        ensures { self.new ≡ [] }
+    {
+        self.len = 0;
     }
 
     /// Takes all indexes out.
@@ -82,7 +86,7 @@ impl Frame {
             len: self.len,
             places: self.places,
         };
-        self.len = 0;
+        self.clear();
         taken
     }
 }

@@ -1,5 +1,5 @@
 //! What waits for one node.
-ghost use Rattle.std.specs.Prelude.{◌≡◌, ◌+◌, ◌*◌, ◌<◌, ◌≤◌, ◌↔◌, IsTrue, IfOk, [], ◌∷◌, ◌++◌, length, map, take, drop};
+ghost use Rattle.std.specs.Prelude.{◌≡◌, ◌+◌, ◌*◌, ◌<◌, ◌≤◌, ◌↔◌, IsTrue, IfOk, [], ◌∷◌, ◌++◌, length, take, drop};
 ghost use Rattle.vg_frame.specs.Pending.{frame_size, most_pending};
 ghost use Rattle.vg_frame.specs.Waiting.{Waiting, IsCut, most_full, most_frames, none_waits};
 
@@ -77,35 +77,35 @@ impl Queue {
         FRAME_SIZE - self.newest.len()
     }
 
-    /// The indexes of these entries, for which the newest frame has room, wait behind the others, in their order. Where that makes the
+    /// These indexes, for which the newest frame has room, wait behind the others, in their order. Where that makes the
     /// frame full, a spare one comes behind it.
     #[inline]
-    fn push_within<T: Copy>(&mut self, entries: &[(u32, T)], spares: &mut Spares)
-        requires within { length self.old.indexes + length entries.now ≤ frame_size * (self.old.full + 1) }
+    fn push_within(&mut self, indexes: &[u32], spares: &mut Spares)
+        requires within { length self.old.indexes + length indexes.now ≤ frame_size * (self.old.full + 1) }
         requires room { self.old.full < most_full }
         requires spare { 0 < spares.old }
-        ensures indexes { self.new.indexes ≡ self.old.indexes ++ map (λ entry. entry.0) entries.now }
+        ensures indexes { self.new.indexes ≡ self.old.indexes ++ indexes.now }
         ensures frames { spares.new + self.new.full ≡ spares.old + self.old.full }
         ensures cut { IsCut self.new }
     {
-        self.newest.push_each(entries);
+        self.newest.push_each(indexes);
         if self.newest.len() >= FRAME_SIZE {
             let full = mem::replace(&mut self.newest, spares.take());
             self.full.push_reserved(full);
         }
     }
 
-    /// The indexes of these entries wait behind the others, in their order. Behind each frame that gets full comes a spare one.
+    /// These indexes wait behind the others, in their order. Behind each frame that gets full comes a spare one.
     #[inline]
-    pub fn push_each<T: Copy>(&mut self, entries: &[(u32, T)], spares: &mut Spares)
-        requires room { length self.old.indexes + length entries.now ≤ most_pending }
-        requires spare { length self.old.indexes + length entries.now ≤ frame_size * (spares.old + self.old.full) }
+    pub fn push_each(&mut self, indexes: &[u32], spares: &mut Spares)
+        requires room { length self.old.indexes + length indexes.now ≤ most_pending }
+        requires spare { length self.old.indexes + length indexes.now ≤ frame_size * (spares.old + self.old.full) }
         requires cut { IsCut self.old }
-        ensures indexes { self.new.indexes ≡ self.old.indexes ++ map (λ entry. entry.0) entries.now }
+        ensures indexes { self.new.indexes ≡ self.old.indexes ++ indexes.now }
         ensures frames { spares.new + self.new.full ≡ spares.old + self.old.full }
         ensures cut { IsCut self.new }
     {
-        let mut left = entries;
+        let mut left = indexes;
         'left: while !left.is_empty() {
             let (front, behind) = left.split_at(left.len().min(self.room()));
             self.push_within(front, spares);

@@ -1,5 +1,5 @@
 //! The frames that wait for nodes.
-ghost use Rattle.std.specs.Prelude.{◌≡◌, ◌+◌, ◌<◌, ◌≤◌, IfOk, MatchOption, [], ◌∷◌, ◌++◌, length, map, replicate, slice_set};
+ghost use Rattle.std.specs.Prelude.{◌≡◌, ◌+◌, ◌<◌, ◌≤◌, IfOk, MatchOption, [], ◌∷◌, ◌++◌, length, replicate, slice_set};
 ghost use Rattle.vg_frame.specs.Pending.{pending_at, pending_count, most_pending, IsNothingPending, TakesFrame};
 ghost use Rattle.vg_frame.specs.Waiting.{most_nodes};
 
@@ -69,17 +69,17 @@ impl FrameStore {
         self.busy.insert(node);
     }
 
-    /// The indexes of these entries wait for the node, in their order, behind those that wait for it already.
+    /// These indexes wait for the node, in their order, behind those that wait for it already.
     #[inline]
-    pub fn put_each<T: Copy>(&mut self, node: u16, entries: &[(u32, T)])
+    pub fn put_each(&mut self, node: u16, indexes: &[u32])
         requires node { node < length self.old }
-        requires room { pending_count self.old + length entries.now ≤ most_pending }
-        ensures { self.new ≡ slice_set self.old node (pending_at self.old node ++ map (λ entry. entry.0) entries.now) }
+        requires room { pending_count self.old + length indexes.now ≤ most_pending }
+        ensures { self.new ≡ slice_set self.old node (pending_at self.old node ++ indexes.now) }
     {
-        if entries.is_empty() {
+        if indexes.is_empty() {
             return;
         }
-        self.queues[node as usize].push_each(entries, &mut self.spares);
+        self.queues[node as usize].push_each(indexes, &mut self.spares);
         self.busy.insert(node);
     }
 

@@ -1,3 +1,4 @@
+pub mod RunLemmas
 pub mod UnderwayLemmas
 pub mod RewriteLemmas
 pub mod SortedLemmas

@@ -1,10 +1,10 @@
 -- For `visit_each`: a frame under way: its first packets are visited and sorted, and the rest is as it was.
-use Rattle.std.proofs.Common.{◌≡◌, ◌≢◌, ℕ, zero, suc, ◌+◌, ◌<◌, ◌≤◌, true, false, cond, List, [], ◌∷◌, ◌++◌, length, refl, sym, ap, subst, ◌∙◌, arith, append_assoc, length-append}
+use Rattle.std.proofs.Common.{◌≡◌, ◌≢◌, ℕ, zero, suc, ◌+◌, ◌-◌, ◌<◌, ◌≤◌, true, false, cond, List, [], ◌∷◌, ◌++◌, length, take, drop, get_or, refl, sym, ap, subst, ◌∙◌, arith, append_assoc, length-append}
 use Rattle.std.specs.Prelude.{Option, Some, None, is_some, option_map, option_and_then, slice_set, nat_eq}
 use Rattle.std.specs.List.{AllByRecursion, IsDistinct, cons_option}
 use Rattle.std.specs.Option.{option_to_list}
 use Rattle.std.proofs.lemmas.Bool.{eqb-false}
-use Rattle.std.proofs.lemmas.List.{append-nil, get_or-set_same, get_or-set_other}
+use Rattle.std.proofs.lemmas.List.{append-nil, get_or-set_same, get_or-set_other, length-take-le, take_more, drop-take, drop-append-le}
 use Rattle.std.proofs.lemmas.List.Sums.{sum_by-set}
 use Rattle.std.proofs.lemmas.Option.{none-some}
 use Rattle.vg_model.specs.declared.kinds.Step.{Step}
@@ -14,6 +14,8 @@ use Rattle.vg_frame.specs.Pending.{frame_size}
 use Rattle.vg_frame.specs.Placed.{buffer_at, count, IsLive}
 use Rattle.vg_nodes.specs.declared.sorted.Sorted.{Sorted}
 use Rattle.vg_nodes.specs.Sorting.{nothing_sorted, HasRoom, put}
+use Rattle.vg_nodes.specs.Runs.{over_slot}
+use Rattle.vg_nodes.proofs.RunLemmas.{over_slot-append, length-over_slot}
 use Rattle.vg_nodes.specs.Dispatch.{NodeVisit, IsVisitAs, after_visit, next_entry, tx_entry, drop_entry, hand_entry, entries, IsSortedBy, IsVisitedBy}
 
 -- the memory after the visits of these indexes, one after the other
@@ -123,6 +125,44 @@ put_hands index (Next slot) out = sym (append-nil out.hands)
 put_hands index (Tx interface) out = sym (append-nil out.hands)
 put_hands index (Dropped error) out = sym (append-nil out.hands)
 put_hands index (Hand hash) out = refl
+
+-- the lists, with packets that go on over one slot behind the others
+abbrev pub running : ℕ → List ℕ → Sorted → Sorted
+running slot run out = record out { next = out.next ++ over_slot slot run }
+
+pub running_none : (slot : ℕ) (run : List ℕ) (out : Sorted) → run ≡ [] → running slot run out ≡ out
+running_none slot run out none = ap (λ xs. record out { next = out.next ++ over_slot slot xs }) none ∙ ap (λ xs. record out { next = xs }) (append-nil out.next)
+
+-- one more of them
+pub running_more : (slot : ℕ) (run : List ℕ) (index : ℕ) (out : Sorted) → put index (Next slot) (running slot run out) ≡ running slot (run ++ index ∷ []) out
+running_more slot run index out =
+    ap (λ xs. record out { next = xs }) (append_assoc out.next (over_slot slot run) ((index, slot) ∷ []) ∙ ap (λ xs. out.next ++ xs) (sym (over_slot-append slot run (index ∷ []))))
+
+-- the indexes of a frame from one place on, in front of another
+abbrev pub between : ℕ → ℕ → List ℕ → List ℕ
+between start at frame = take (at - start) (drop start frame)
+
+between_is : (start at : ℕ) (frame : List ℕ) → start ≤ at → between start at frame ≡ drop start (take at frame)
+between_is start at frame within =
+    sym (drop-take start (at - start) frame) ∙ ap (λ n. drop start (take n frame)) (let same : start + (at - start) ≡ at = omega (arith, within) in same)
+
+pub between_more : (start at : ℕ) (frame : List ℕ) → start ≤ at → at < length frame → between start (at + 1) frame ≡ between start at frame ++ get_or frame at 0 ∷ []
+between_more start at frame within inside =
+    let size : length (take at frame) ≡ at = length-take-le at frame (omega (arith, inside)) in
+    between_is start (at + 1) frame (omega (arith, within))
+    ∙ (ap (drop start) (take_more frame at 0 inside)
+    ∙ (drop-append-le start (take at frame) (get_or frame at 0 ∷ []) (omega (arith, within, size))
+    ∙ ap (λ xs. xs ++ get_or frame at 0 ∷ []) (sym (between_is start at frame within))))
+
+pub between_none : (at : ℕ) (frame : List ℕ) → between at at frame ≡ []
+between_none at frame = ap (λ n. take n (drop at frame)) (let none : at - at ≡ 0 = omega arith in none)
+
+-- a list with more behind it, and a rest that it has room for
+pub length-running : (slot left : ℕ) (run : List ℕ) (out : Sorted) → HasRoomFor left (running slot run out) → length out.next + length run + left ≤ frame_size
+length-running slot left run out room =
+    let all = length-append out.next (over_slot slot run) in
+    let size = length-over_slot slot run in
+    omega (arith, room.next, all, size)
 
 -- room for one more index
 pub room_for_one : (left : ℕ) (out : Sorted) → HasRoomFor (suc left) out → HasRoom out

@@ -1,3 +1,4 @@
 pub mod Sorting
 pub mod Dispatch
 pub mod Laws
+pub mod Runs

@@ -4,11 +4,9 @@ ghost use Rattle.vg_frame.specs.Pending.{frame_size};
 ghost use Rattle.vg_nodes.specs.Sorting.{HasRoom};
 
 use crate::entries::Entries;
+use crate::next_list::NextList;
 use std::alloc::Global;
 use vg_model::{DropError, Memory, Step};
-
-/// Packets that go on, each with the slot of the node over which it does.
-pub type NextList = Entries<u8>;
 
 /// Packets that are transmitted, each with the number of its interface.
 pub type TxList = Entries<u16>;
@@ -44,7 +42,7 @@ impl Sorted {
         ensures { IfOk result (λ sorted. sorted ≡ nothing_sorted) }
     {
         Ok(Sorted {
-            next: Entries::new(alloc)?,
+            next: NextList::new(alloc)?,
             tx: Entries::new(alloc)?,
             drops: Entries::new(alloc)?,
             hands: Entries::new(alloc)?,

@@ -1,5 +1,5 @@
 //! The visits of a frame's packets, one after the other.
-ghost use Rattle.std.specs.Prelude.{◌≡◌, ◌≤◌, length, nat_eq};
+ghost use Rattle.std.specs.Prelude.{◌≡◌, ◌≤◌, ◌↔◌, IsTrue, length, nat_eq};
 ghost use Rattle.std.specs.List.{AllByRecursion, IsDistinct};
 ghost use Rattle.vg_frame.specs.Pending.{frame_size};
 ghost use Rattle.vg_frame.specs.Placed.{IsLive};
@@ -31,8 +31,31 @@ pub fn visit_each<F: Fn(&mut Buffer) -> Step>(
     ensures sorted { (meaning : NodeVisit) → IsMeaningOf (F.post visit) meaning → IsSortedBy meaning memory.old indexes.now out.new }
     ensures visited { (meaning : NodeVisit) → IsMeaningOf (F.post visit) meaning → IsVisitedBy meaning indexes.now memory.old memory.new }
 {
-    for index in indexes {
+    // The packets from `start` on that are visited go on over `slot`. They are put together.
+    let mut start = 0;
+    let mut slot = 0;
+    for (at, index) in indexes.iter().enumerate() {
         let step = visit(memory.get_mut(*index));
+        if is_over(step, slot) {
+            continue;
+        }
+        out.next.push_each(&indexes[start..at], slot);
         out.put(*index, step);
+        start = at + 1;
+        if let Step::Next { slot: other } = step {
+            slot = other;
+        }
+    }
+    out.next.push_each(&indexes[start..], slot);
+}
+
+// Whether the packet of a step goes on over this slot.
+#[inline]
+fn is_over(step: Step, slot: u8) -> bool
+    ensures { IsTrue result ↔ (step ≡ Step.Next slot) }
+{
+    match step {
+        Step::Next { slot: other } => other == slot,
+        _ => false,
     }
 }

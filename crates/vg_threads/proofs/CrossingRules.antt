@@ -69,6 +69,8 @@ use Rattle.vg_model.proofs.routes.Prefix6.TheSendSync as prefix6
 use Rattle.vg_model.proofs.routes.RouteTo.TheSendSync as route_to
 use Rattle.vg_model.proofs.routes.RouteWord.TheSendSync as route_word
 use Rattle.vg_model.proofs.vlans.VlanId.TheSendSync as vlan_id
+use Rattle.vg_nodes.proofs.next_list.NextList.TheSendSync as next_list
+use Rattle.vg_nodes.proofs.next_list.NextRun.TheSendSync as next_run
 use Rattle.vg_nodes.proofs.sorted.Sorted.TheSendSync as sorted
 use Rattle.vg_plan.proofs.masters.Master.TheSendSync as master
 use Rattle.vg_plan.proofs.plans.Plan.TheSendSync as plan
@@ -319,6 +321,14 @@ pub ruleset crosses = (
   route_word.the_send,
   route_word.the_field_sync,
   route_word.the_sync,
+  next_list.the_field_send,
+  next_list.the_send,
+  next_list.the_field_sync,
+  next_list.the_sync,
+  next_run.the_field_send,
+  next_run.the_send,
+  next_run.the_field_sync,
+  next_run.the_sync,
   sorted.the_field_send,
   sorted.the_send,
   sorted.the_field_sync,

@@ -1,8 +1,8 @@
 -- For the clauses of `Work::{put_apart, group, dispatch_next, dispatch_all}` and `away` of `Work::put_away`: the packets of a dispatch are put away one by one.
-use Rattle.std.proofs.Common.{◌≡◌, ℕ, suc, ◌+◌, ◌<◌, ◌≤◌, ◌^◌, List, [], ◌∷◌, ◌++◌, length, map, get_or, take, drop, set, refl, sym, ap, subst, ◌∙◌, arith, add-one, drop-cons, append_assoc}
+use Rattle.std.proofs.Common.{◌≡◌, ℕ, suc, ◌+◌, ◌<◌, ◌≤◌, ◌^◌, List, [], ◌∷◌, ◌++◌, length, map, get_or, drop, set, refl, sym, ap, subst, ◌∙◌, arith, add-one, drop-cons, append_assoc}
 use Rattle.std.specs.Prelude.{Bool, Option, Some, None, IfSome, slice_index, vec_len, vec_capacity}
-use Rattle.std.specs.List.{sum_by, AllByRecursion}
-use Rattle.std.proofs.lemmas.List.{drop_all, length-append, length-map, map-append, take-append-drop}
+use Rattle.std.specs.List.{sum_by}
+use Rattle.std.proofs.lemmas.List.{drop_all, length-append, length-map, map-append}
 use Rattle.std.proofs.lemmas.List.Sums.{sum_by-cons}
 use Rattle.vg_model.specs.Errors.{error_number}
 use Rattle.vg_model.specs.declared.kinds.Kind.{Kind}
@@ -25,6 +25,7 @@ use Rattle.vg_nodes.specs.Dispatch.{IsSortedBy, IsVisitedBy}
 use Rattle.vg_frame.specs.Placed.{count}
 use Rattle.vg_journeys.specs.Chains.{count_some}
 use Rattle.vg_model.specs.declared.fates.Fate.{Fate}
+use Rattle.vg_nodes.specs.Runs.{over_slot}
 use Rattle.vg_underway.specs.declared.underway.Work.{Work}
 use Rattle.vg_journeys.specs.Ended.{Ended, drop_visits}
 use Rattle.vg_journeys.specs.Accounts.{HandoffFrame}
@@ -91,34 +92,38 @@ pub put_room : (s : Setting) (node : ℕ) (w : Work) (p : ℕ × Step) (rest : L
 put_room s node w p rest held = let all : pending_count w.pending + suc (length rest) ≡ count w.memory = held.count_is in let few = held.few in omega (arith, all, few)
 
 -- packets that go on over one slot
-pub away_put_each : (s : Setting) (node : ℕ) (old : Work) (old_cache : CacheBook) (old_hand : List (ℕ × Step)) (w : Work) (cache : CacheBook) (run : List (ℕ × ℕ)) (rest : List (ℕ × Step)) (slot to : ℕ) (pending : List (List ℕ))
-    → IsSetting s → AllByRecursion (λ (e : ℕ × ℕ). e.1 ≡ slot) run → arc s.graph node slot ≡ Some to → pending ≡ set w.pending to (pending_at w.pending to ++ map (λ (e : ℕ × ℕ). e.0) run)
-    → IsPutAway s node old old_cache old_hand w cache (map next_step run ++ rest) → IsPutAway s node old old_cache old_hand (record w { pending = pending }) cache rest
-away_put_each s node old old_cache old_hand w cache [] rest slot to pending ok same leads is away =
+pub away_put_each : (s : Setting) (node : ℕ) (old : Work) (old_cache : CacheBook) (old_hand : List (ℕ × Step)) (w : Work) (cache : CacheBook) (run : List ℕ) (rest : List (ℕ × Step)) (slot to : ℕ) (pending : List (List ℕ))
+    → IsSetting s → arc s.graph node slot ≡ Some to → pending ≡ set w.pending to (pending_at w.pending to ++ run)
+    → IsPutAway s node old old_cache old_hand w cache (map next_step (over_slot slot run) ++ rest) → IsPutAway s node old old_cache old_hand (record w { pending = pending }) cache rest
+away_put_each s node old old_cache old_hand w cache [] rest slot to pending ok leads is away =
     let none : pending ≡ w.pending = is ∙ put_none w.pending to in
     subst (λ q. IsPutAway s node old old_cache old_hand (record w { pending = q }) cache rest) (sym none) away
-away_put_each s node old old_cache old_hand w cache (e ∷ es) rest slot to pending ok same leads is away =
+away_put_each s node old old_cache old_hand w cache (index ∷ run) rest slot to pending ok leads is away =
     let target : IsTarget (kind_at s.graph to) = arc_target s.graph node to ok.valid (slot, leads) in
-    let inside : to < length w.pending = to_within s node w (map next_step (e ∷ es) ++ rest) to ok away.steady.held target in
-    let here : List ℕ = pending_at w.pending to ++ e.0 ∷ [] in
-    let first : IsPutAway s node old old_cache old_hand (with_waiting to e.0 w) cache (map next_step es ++ rest) =
-    away_put s node old old_cache old_hand w cache (next_step e) (map next_step es ++ rest) e.1 to (set w.pending to here) ok refl (ap (arc s.graph node) same.0 ∙ leads) refl away in
-    away_put_each s node old old_cache old_hand (with_waiting to e.0 w) cache es rest slot to pending ok same.1 leads
-    (is ∙ sym (put_more w.pending to (e.0 ∷ []) (map (λ (x : ℕ × ℕ). x.0) es) inside)) first
+    let inside : to < length w.pending = to_within s node w (map next_step (over_slot slot (index ∷ run)) ++ rest) to ok away.steady.held target in
+    let here : List ℕ = pending_at w.pending to ++ index ∷ [] in
+    let first : IsPutAway s node old old_cache old_hand (with_waiting to index w) cache (map next_step (over_slot slot run) ++ rest) =
+    away_put s node old old_cache old_hand w cache (next_step (index, slot)) (map next_step (over_slot slot run) ++ rest) slot to (set w.pending to here) ok refl leads refl away in
+    away_put_each s node old old_cache old_hand (with_waiting to index w) cache run rest slot to pending ok leads
+    (is ∙ sym (put_more w.pending to (index ∷ []) run inside)) first
 
 -- and there is room for them
-pub put_each_room : (s : Setting) (node : ℕ) (w : Work) (run : List (ℕ × ℕ)) (rest : List (ℕ × Step)) → IsHeld s node w (map next_step run ++ rest) → pending_count w.pending + length run ≤ 2304
-put_each_room s node w run rest held =
-    let all : pending_count w.pending + length (map next_step run ++ rest) ≡ count w.memory = held.count_is in
+pub put_each_room : (s : Setting) (node : ℕ) (w : Work) (slot : ℕ) (run : List ℕ) (rest : List (ℕ × Step)) → IsHeld s node w (map next_step (over_slot slot run) ++ rest) → pending_count w.pending + length run ≤ 2304
+put_each_room s node w slot run rest held =
+    let all : pending_count w.pending + length (map next_step (over_slot slot run) ++ rest) ≡ count w.memory = held.count_is in
     let few = held.few in
-    omega (arith, all, few, length-append (map next_step run) rest, length-map run next_step)
+    let same : length (over_slot slot run) ≡ length run = length-map run (λ (index : ℕ). (index, slot)) in
+    omega (arith, all, few, length-append (map next_step (over_slot slot run)) rest, length-map (over_slot slot run) next_step, same)
+
+-- the first of a run, where it has some
+pub run_first : (slot : ℕ) (run : List ℕ) (rest : List (ℕ × Step)) → 1 ≤ length run → (index : ℕ) × (others : List (ℕ × Step)) × (map next_step (over_slot slot run) ++ rest ≡ (index, Next slot) ∷ others)
+run_first slot [] rest some = absurd (omega (arith, some))
+run_first slot (index ∷ run) rest some = (index, map next_step (over_slot slot run) ++ rest, refl)
 
 -- a list in hand begins with a part of it
-pub hand_parts : {A B : Type 0} (step : A → B) (xs front back : List A) (n : ℕ) (others : List B) → front ≡ take n xs → back ≡ drop n xs
-    → map step xs ++ others ≡ map step front ++ (map step back ++ others)
-hand_parts step xs front back n others is_front is_back =
-    let whole : front ++ back ≡ xs = ap (λ ys. ys ++ back) is_front ∙ (ap (λ ys. take n xs ++ ys) is_back ∙ take-append-drop n xs) in
-    ap (λ ys. map step ys ++ others) (sym whole) ∙ (ap (λ ys. ys ++ others) (map-append step front back) ∙ append_assoc (map step front) (map step back) others)
+pub hand_parts : (xs front back : List (ℕ × ℕ)) (others : List (ℕ × Step)) → xs ≡ front ++ back → map next_step xs ++ others ≡ map next_step front ++ (map next_step back ++ others)
+hand_parts xs front back others whole =
+    ap (λ ys. map next_step ys ++ others) whole ∙ (ap (λ ys. ys ++ others) (map-append next_step front back) ∙ append_assoc (map next_step front) (map next_step back) others)
 
 -- where it goes on to is one of the nodes
 pub put_within : (s : Setting) (node : ℕ) (old : Work) (old_cache : CacheBook) (old_hand : List (ℕ × Step)) (w : Work) (cache : CacheBook) (hand : List (ℕ × Step)) (slot to : ℕ)

@@ -10,14 +10,13 @@
 //! it is transmitted; between nodes only its index moves, and to hand a packet over moves the one pointer to its chain. A node's visits are
 //! counted once a frame, and noted packet by packet only where packets are traced.
 //!
-//! In which order to read: `making` with `stations` and `peers`, `underway` with `runs`, `taking` with `incoming`, `counting`, `sent`.
+//! In which order to read: `making` with `stations` and `peers`, `underway`, `taking` with `incoming`, `counting`, `sent`.
 #![tactic(auto)]
 
 pub mod counting;
 pub mod incoming;
 pub mod making;
 pub mod peers;
-mod runs;
 pub mod sent;
 pub mod stations;
 pub mod taking;

@@ -16,7 +16,6 @@ ghost use Rattle.vg_underway.specs.SentEntries.{AreWithin, sent_by};
 ghost use Rattle.vg_underway.specs.Underway.{stationed, leg_here, contents_at, IsSetting};
 
 use crate::peers::place_of;
-use crate::runs::run_len;
 use crate::sent::SentEntry;
 use crate::stations::Station;
 use std::alloc::Global;
@@ -169,12 +168,9 @@ impl Work {
         requires takes { TakesAll (stationed K.meaning fork.now.graph fork.now.generation station) node self.old (hand_of sorted.now) cache.old }
         ensures { IsPutAway (stationed K.meaning fork.now.graph fork.now.generation station) node self.old cache.old (hand_of sorted.now) self.new cache.new (without_drops sorted.now) }
     {
-        let mut going = sorted.next.as_slice();
-        'next: while !going.is_empty() {
-            let (_, slot) = going[0];
-            let (run, behind) = going.split_at(run_len(going));
+        let mut going = sorted.next.runs();
+        'next: while let Some((slot, run)) = going.next() {
             self.pending.put_each(fork.arc(node, slot), run);
-            going = behind;
         }
         'sent: for entry in sorted.tx.as_slice() {
             let (index, interface) = *entry;

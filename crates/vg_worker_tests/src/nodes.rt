@@ -477,11 +477,11 @@ fn packets_go_on_or_are_dropped_in_the_order_of_their_frame(rt: HostRuntime) {
     let whole = whole(&rt, alloc);
     let whole = whole.as_slice();
     let ([first, second, third], out) = dispatched(&rt, alloc, &fork, 2, [whole, SHORT, whole]);
-    same(
-        &rt,
-        out.next.as_slice(),
-        [(first, 0), (third, 0)].as_slice(),
-    );
+    let mut runs = out.next.runs();
+    let (slot, run) = runs.next().expect(&rt, "a run");
+    same(&rt, slot, 0);
+    same(&rt, run, [first, third].as_slice());
+    holds(&rt, runs.next().is_none());
     same(
         &rt,
         out.drops.as_slice(),

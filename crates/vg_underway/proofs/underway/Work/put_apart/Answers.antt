@@ -1,31 +1,21 @@
-use Rattle.std.proofs.Common.{◌≡◌, ℕ, ◌+◌, ◌<◌, ◌≤◌, List, ◌++◌, length, map, take, drop, get_or, refl, sym, subst, inl, inr, arith}
-use Rattle.std.specs.Prelude.{Bool, true, false}
-use Rattle.std.specs.Bool.{◌==◌}
-use Rattle.std.proofs.lemmas.Bool.Decides.{eqb_tells}
-use Rattle.std.specs.List.{AllByRecursion}
+use Rattle.std.proofs.Common.{◌≡◌, ℕ, ◌+◌, List, ◌++◌, length, map, drop, get_or, refl, sym, ap, subst, ◌∙◌, arith}
+use Rattle.std.proofs.lemmas.List.{length-append, length-map}
+use Rattle.vg_model.specs.declared.kinds.Step.{Step}
 use Rattle.vg_model.specs.declared.kinds.DropError.TheVariants.{Short}
 use Rattle.vg_model.specs.declared.fates.End.TheVariants.{Tx, Dropped}
 use Rattle.vg_underway.specs.Underway.{Setting, stationed}
-use Rattle.vg_underway.specs.Works.{IsPutAway, hand_of, without_next, without_tx, without_drops, next_step, tx_step, drop_step}
+use Rattle.vg_nodes.specs.Runs.{over_slot}
+use Rattle.vg_underway.specs.Works.{IsHeld, IsPutAway, hand_of, without_next, without_tx, without_drops, next_step, tx_step, drop_step}
 use Rattle.vg_underway.proofs.OwedLemmas.{target_within}
-use Rattle.vg_underway.proofs.AwayLemmas.{put_each_room, hand_parts, hand_first, hand_last, away_none, away_put_each, put_within, can_finish, away_finish, next_slot, tx_interface}
+use Rattle.vg_underway.proofs.AwayLemmas.{put_each_room, run_first, hand_parts, hand_first, hand_last, away_none, away_put_each, put_within, can_finish, away_finish, next_slot, tx_interface}
 use Rattle.vg_underway.proofs.underway.Work.put_apart.Goals as goal
-
-is_zero : (n : ℕ) (empty : Bool) → empty ≡ (n == 0) → empty ≡ true → n ≤ 0
-is_zero n empty is holds = elim (eqb_tells n 0) [
-  | inl same ↦ (let e : n ≡ 0 = same.1 in omega (arith, e))
-  | inr other ↦ (let no : (n == 0) ≡ false = other.0 in absurd (cc))
-]
-
-same_run : (slot : ℕ) (run entries : List (ℕ × ℕ)) (n : ℕ) → run ≡ take n entries → AllByRecursion (λ (entry : ℕ × ℕ). entry.1 ≡ slot) (take n entries) → AllByRecursion (λ (entry : ℕ × ℕ). entry.1 ≡ slot) run
-same_run slot run entries n is all = subst (AllByRecursion (λ (entry : ℕ × ℕ). entry.1 ≡ slot)) (sym is) all
 
 pub next-init : goal.next-init
 next-init g c =
     let s : Setting = stationed g.K.KindSet.meaning c.args.fork.now.graph c.args.fork.now.generation c.args.station in
     let none = away_none s c.args.node c.args.self.now c.args.cache.now (hand_of c.args.sorted.now) c.requires.steady c.requires.takes in
     subst (λ going. IsPutAway s c.args.node c.args.self.now c.args.cache.now (hand_of c.args.sorted.now) c.args.self.now c.args.cache.now (map next_step going ++ without_next c.args.sorted.now))
-    (sym c.as_slice-going.ensures.entries) none
+    (sym c.runs-going.ensures) none
 
 pub arc-requires-clause-node : goal.arc-requires-clause-node
 arc-requires-clause-node g c = target_within c.args.fork.now.graph c.args.node c.requires.target
@@ -33,10 +23,12 @@ arc-requires-clause-node g c = target_within c.args.fork.now.graph c.args.node c
 pub arc-requires-clause-slot : goal.arc-requires-clause-slot
 arc-requires-clause-slot g c =
     let s : Setting = stationed g.K.KindSet.meaning c.args.fork.now.graph c.args.fork.now.generation c.args.station in
-    let some : 0 < length c.next.going.now = (let one = c.run_len.ensures.some in let most = c.run_len.ensures.within in omega (arith, one, most)) in
-    let first = hand_first next_step c.next.going.now c.next.going.now 0 (0, 0) (without_next c.args.sorted.now) refl some in
-    let away = subst (IsPutAway s c.args.node c.args.self.now c.args.cache.now (hand_of c.args.sorted.now) c.next.self c.args.cache.now) first c.next.invariant in
-    next_slot s c.args.node _ _ c.next.self _ away.steady.held
+    let run : List ℕ = c.in-Some.run'.now in
+    let rest : List (ℕ × Step) = map next_step c.next-in-next.new.self ++ without_next c.args.sorted.now in
+    let parts = hand_parts c.next.going (over_slot c.in-Some.slot run) c.next-in-next.new.self (without_next c.args.sorted.now) c.in-Some.ensures.1 in
+    let away = subst (IsPutAway s c.args.node c.args.self.now c.args.cache.now (hand_of c.args.sorted.now) c.next.self c.args.cache.now) parts c.next.invariant in
+    let first = run_first c.in-Some.slot run rest c.in-Some.ensures.0 in
+    next_slot s c.args.node first.0 c.in-Some.slot c.next.self first.1 (subst (IsHeld s c.args.node c.next.self) first.2 away.steady.held)
 
 pub put_each-requires-clause-node : goal.put_each-requires-clause-node
 put_each-requires-clause-node g c =
@@ -46,26 +38,33 @@ put_each-requires-clause-node g c =
 pub put_each-requires-clause-room : goal.put_each-requires-clause-room
 put_each-requires-clause-room g c =
     let s : Setting = stationed g.K.KindSet.meaning c.args.fork.now.graph c.args.fork.now.generation c.args.station in
-    let parts = hand_parts next_step c.next.going.now c.split_at.result.0.now c.split_at.result.1.now c.run_len.result (without_next c.args.sorted.now) c.split_at.ensures.front c.split_at.ensures.back in
+    let run : List ℕ = c.in-Some.run'.now in
+    let rest : List (ℕ × Step) = map next_step c.next-in-next.new.self ++ without_next c.args.sorted.now in
+    let parts = hand_parts c.next.going (over_slot c.in-Some.slot run) c.next-in-next.new.self (without_next c.args.sorted.now) c.in-Some.ensures.1 in
     let away = subst (IsPutAway s c.args.node c.args.self.now c.args.cache.now (hand_of c.args.sorted.now) c.next.self c.args.cache.now) parts c.next.invariant in
-    put_each_room s c.args.node c.next.self c.split_at.result.0.now _ away.steady.held
+    put_each_room s c.args.node c.next.self c.in-Some.slot run rest away.steady.held
+
+pub next-smaller : goal.next-smaller
+next-smaller g c =
+    let all = ap length c.in-Some.ensures.1 ∙ length-append (over_slot c.in-Some.slot c.in-Some.run'.now) c.next-in-next.new.self in
+    let some : length (over_slot c.in-Some.slot c.in-Some.run'.now) ≡ length c.in-Some.run'.now = length-map c.in-Some.run'.now (λ (index : ℕ). (index, c.in-Some.slot)) in
+    omega (arith, all, some, c.in-Some.ensures.0)
 
 pub next-preserved : goal.next-preserved
 next-preserved g c =
     let s : Setting = stationed g.K.KindSet.meaning c.args.fork.now.graph c.args.fork.now.generation c.args.station in
-    let parts = hand_parts next_step c.next.going.now c.split_at.result.0.now c.split_at.result.1.now c.run_len.result (without_next c.args.sorted.now) c.split_at.ensures.front c.split_at.ensures.back in
+    let run : List ℕ = c.in-Some.run'.now in
+    let rest : List (ℕ × Step) = map next_step c.next-in-next.new.self ++ without_next c.args.sorted.now in
+    let parts = hand_parts c.next.going (over_slot c.in-Some.slot run) c.next-in-next.new.self (without_next c.args.sorted.now) c.in-Some.ensures.1 in
     let away = subst (IsPutAway s c.args.node c.args.self.now c.args.cache.now (hand_of c.args.sorted.now) c.next.self c.args.cache.now) parts c.next.invariant in
-    let slot : ℕ = (get_or c.next.going.now 0 (0, 0)).1 in
-    let same = same_run slot c.split_at.result.0.now c.next.going.now c.run_len.result c.split_at.ensures.front c.run_len.ensures.same in
-    away_put_each s c.args.node c.args.self.now c.args.cache.now (hand_of c.args.sorted.now) c.next.self c.args.cache.now c.split_at.result.0.now (map next_step c.split_at.result.1.now ++ without_next c.args.sorted.now)
-    slot c.arc.result c.put_each.new.self c.requires.setting same c.arc.ensures c.put_each.ensures away
+    away_put_each s c.args.node c.args.self.now c.args.cache.now (hand_of c.args.sorted.now) c.next.self c.args.cache.now run rest
+    c.in-Some.slot c.arc.result c.put_each.new.self c.requires.setting c.arc.ensures c.put_each.ensures away
 
 pub sent-init : goal.sent-init
 sent-init g c =
     let s : Setting = stationed g.K.KindSet.meaning c.args.fork.now.graph c.args.fork.now.generation c.args.station in
-    let none : length c.next.going.now ≤ 0 = is_zero (length c.next.going.now) c.is_empty.result c.is_empty.ensures c.next-test.false in
-    let last = hand_last next_step c.next.going.now c.next.going.now 0 (without_next c.args.sorted.now) refl none in
-    subst (IsPutAway s c.args.node c.args.self.now c.args.cache.now (hand_of c.args.sorted.now) c.next.self c.args.cache.now) last c.next.invariant
+    subst (λ going. IsPutAway s c.args.node c.args.self.now c.args.cache.now (hand_of c.args.sorted.now) c.next.self c.args.cache.now (map next_step going ++ without_next c.args.sorted.now))
+    c.in_default.ensures.0 c.next.invariant
 
 pub finish-requires : goal.finish-requires
 finish-requires g c =
