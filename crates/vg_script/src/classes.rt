@@ -43,7 +43,10 @@ pub fn split_at_first(text: &[u8], mark: u8) -> (&[u8], &[u8])
 pub fn names(alloc: Global, word: &[u8]) -> Result<Names, ScriptCause>
     ensures { MatchResult result (λ names. names_of word.now ≡ Some names) (λ cause. Refuses (ok_or (names_of word.now) ScriptCause.Name) cause) }
 {
-    let mut names = Vec::new(alloc);
+    // Most words are one name.
+    let Ok(mut names) = Vec::with_capacity(alloc, 1) else {
+        return Err(ScriptCause::Memory);
+    };
     let mut rest = Some(word);
     while let Some(text) = rest {
         let (part, others) = first_part(text, b',');

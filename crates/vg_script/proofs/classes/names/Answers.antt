@@ -8,7 +8,7 @@ use Rattle.vg_script.proofs.PartLemmas.{AreRead, IsNext, none_read, one_read, so
 use Rattle.vg_script.proofs.classes.names.Goals as goal
 
 pub loop-rest-init : goal.loop-rest-init
-loop-rest-init c = subst (λ ns. AreRead c.args.word.now ns (Some c.args.word.now)) (sym c.new-names.ensures.items) (none_read c.args.word.now)
+loop-rest-init c = subst (λ ns. AreRead c.args.word.now ns (Some c.args.word.now)) (sym c.in-Ok.ensures.items) (none_read c.args.word.now)
 
 pub loop-rest-smaller : goal.loop-rest-smaller
 loop-rest-smaller c = left_falls (λ t. t.now) c.loop-rest.rest c.first_part.result.1 c.in-Some.text c.in-Some.is c.first_part.ensures.shorter
@@ -48,5 +48,5 @@ pub from_vec-requires-clause-some : goal.from_vec-requires-clause-some
 from_vec-requires-clause-some c =
     let some : 1 ≤ length c.loop-rest.names.items =
     some_are_read c.args.word.now c.loop-rest.names.items
-    (subst (λ r. AreRead c.args.word.now c.loop-rest.names.items (option_copied r)) c.in_default.is c.loop-rest.invariant) in
+    (subst (λ r. AreRead c.args.word.now c.loop-rest.names.items (option_copied r)) c.in_default-rest.is c.loop-rest.invariant) in
     grind (arith, common_steps, some)
