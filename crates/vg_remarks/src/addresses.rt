@@ -1,7 +1,8 @@
 //! IPv4 addresses that a router does not forward to (RFC 1812, RFC 2644).
 ghost use Rattle.std.specs.Prelude.{◌≡◌, ◌==◌, ◌&&◌, ◌||◌, ◌/◌, ◌^◌, ℕ, true, List, IfOk, OnOk, filter, is_some};
 ghost use Rattle.vg_model.specs.declared.routes.Prefix.{Prefix as PrefixValue};
-ghost use Rattle.vg_remarks.specs.Addresses.{class_of, destination as destination_of, has_group, is_directed as directed, is_led, is_multicast as multicast, is_network as network, is_special as special, last_of, may_be_special as may_cover_special, special_class as class_everywhere, IsKnown, IsSetOf};
+ghost use Rattle.vg_remarks.specs.Addresses.{class_of, destination as destination_of, has_group, is_directed as directed, is_led, is_multicast as multicast};
+ghost use Rattle.vg_remarks.specs.Addresses.{is_network as network, is_special as special, last_of, may_be_special as may_cover_special, special_class as class_everywhere, IsKnown, IsSetOf};
 ghost use Rattle.vg_remarks.specs.Lasts.{has};
 
 use crate::lasts::LastAddresses;
