@@ -1,5 +1,5 @@
 -- The commands that make the kernel's router of a script's first graph, and comments on what they can't say.
-use Rattle.std.specs.Prelude.{ℕ, zero, suc, ◌+◌, Bool, ◌==◌, List, [], ◌∷◌, ◌++◌, length, flat_map, slice_get, codes, decimal, Option, Some, None, is_none, option_and_then, if◌then◌else◌}
+use Rattle.std.specs.Prelude.{ℕ, zero, suc, ◌+◌, ◌%◌, Bool, true, false, not, ◌&&◌, ◌==◌, nat_le, List, [], ◌∷◌, ◌++◌, length, flat_map, count_by, slice_get, slice_index, codes, decimal, Option, Some, None, is_none, option_and_then, if◌then◌else◌}
 use Rattle.std.specs.List.{list_all}
 use Rattle.std.specs.Option.{option_map_or}
 use Rattle.vg_model.specs.declared.edits.Edit.{Edit}
@@ -18,8 +18,8 @@ use Rattle.vg_script.specs.declared.scripts.Block.{Block}
 use Rattle.vg_script.specs.declared.scripts.Block.TheVariants as blocks
 use Rattle.vg_script.specs.declared.scripts.Script.{Script}
 use Rattle.vg_script.specs.Plain.{mac_text, address_text, prefix_text, group_text, prefix6_text}
-use Rattle.vg_diff.specs.declared.linux.Version.{Version}
-use Rattle.vg_diff.specs.declared.linux.Version.TheVariants.{Ip4, Ip6}
+use Rattle.vg_diff.specs.declared.reach.Version.{Version}
+use Rattle.vg_diff.specs.declared.reach.Version.TheVariants.{Ip4, Ip6}
 
 -- ---- comments
 
@@ -58,6 +58,18 @@ head = forwarding_line ++ (answers_line ++ (addresses_line ++ choice_line))
 
 -- ---- interfaces
 
+-- all these bytes are 0
+abbrev pub are_zeros : List ℕ → Bool
+are_zeros bytes = list_all (λ byte. byte == 0) bytes
+
+-- an interface can have an address: it is no group's, and not all zeros
+abbrev pub is_station : Mac → Bool
+is_station mac = slice_index mac.0 0 % 2 == 0 && not (are_zeros mac.0)
+
+-- ip can say an interface: its name has at most 15 letters, and it can have its address
+abbrev pub is_sayable : Interface → Bool
+is_sayable interface = nat_le (length interface.name) 15 && is_station interface.mac
+
 -- the word for an interface that is up, or for one that is down
 abbrev pub up_word : Bool → List ℕ
 up_word up = if up then codes " up" else codes " down"
@@ -77,9 +89,12 @@ abbrev pub filter_text : Interface → List ℕ
 filter_text interface =
     if interface.filter then [] else remark_text interface.name (codes "takes frames to every address; the kernel's router takes those to its own")
 
--- the command, and the comment
+-- the command, and the comment; or a comment in its place
 abbrev pub interface_text : Interface → List ℕ
-interface_text interface = link_text interface ++ (state_text interface ++ filter_text interface)
+interface_text interface =
+    if is_sayable interface
+    then link_text interface ++ (state_text interface ++ filter_text interface)
+    else remark_text interface.name (codes "has a name of more than 15 letters or an address of no station, which ip can't say")
 
 -- the command for the interface of a number
 abbrev pub interface_at : Graph → ℕ → List ℕ
@@ -87,17 +102,27 @@ interface_at graph number = option_map_or interface_text (slice_get graph.interf
 
 -- ---- neighbors
 
--- the name of an interface that is up
-abbrev pub name_if_up : Interface → Option (List ℕ)
-name_if_up interface = if interface.up then Some interface.name else None
+-- the kernel sends by this version over an interface: by IPv6 where it takes 1280 bytes
+abbrev pub carries : Version → Interface → Bool
+carries Ip4 interface = true
+carries Ip6 interface = nat_le 1280 interface.mtu
 
--- the interface of a number, where it is up
-abbrev pub up_at : Graph → ℕ → Option (List ℕ)
-up_at graph number = option_and_then name_if_up (slice_get graph.interfaces number)
+-- the kernel sends by this version over an interface, which ip can say and which is up
+abbrev pub is_open : Version → Interface → Bool
+is_open version interface = interface.up && (is_sayable interface && carries version interface)
 
--- the interface of the neighbor of a number, where it is up
-abbrev pub interface_of : Graph → ℕ → Option (List ℕ)
-interface_of graph number = option_and_then (λ (adjacency : Adjacency). up_at graph adjacency.interface) (slice_get graph.adjacencies number)
+-- the name of an interface that is open
+abbrev pub name_if_open : Version → Interface → Option (List ℕ)
+name_if_open version interface = if is_open version interface then Some interface.name else None
+
+-- the interface of a number, where it is open
+abbrev pub open_at : Version → Graph → ℕ → Option (List ℕ)
+open_at version graph number = option_and_then (name_if_open version) (slice_get graph.interfaces number)
+
+-- the interface of the neighbor of a number, where it is open
+abbrev pub interface_of : Version → Graph → ℕ → Option (List ℕ)
+interface_of version graph number =
+    option_and_then (λ (adjacency : Adjacency). open_at version graph adjacency.interface) (slice_get graph.adjacencies number)
 
 -- the address of the neighbor of a number: 198.18.0.1, or fe80::1, for the first
 abbrev pub neighbor_address : Version → ℕ → List ℕ
@@ -114,15 +139,23 @@ neighbor_link version number mac = neighbor_begin version number ++ mac_text mac
 abbrev pub neighbor_text : Version → ℕ → Mac → (interface : List ℕ) → List ℕ
 neighbor_text version number mac interface = neighbor_link version number mac ++ (codes " dev " ++ (interface ++ (codes " nud permanent" ++ 10 ∷ [])))
 
--- the commands that set both addresses, where its interface is up; else a comment
-abbrev pub neighbor_behind : ℕ → Adjacency → Option (List ℕ) → List ℕ
-neighbor_behind number adjacency None = remark_text adjacency.name (codes "is behind an interface which is down")
-neighbor_behind number adjacency (Some interface) = neighbor_text Ip4 number adjacency.mac interface ++ neighbor_text Ip6 number adjacency.mac interface
+-- the command that sets the address of one version, where its interface is open; else a comment
+abbrev pub closed_text : Version → List ℕ
+closed_text Ip4 = codes "is behind an interface which isn't up"
+closed_text Ip6 = codes "has no IPv6: its interface isn't up, or has an mtu below 1280"
+
+abbrev pub neighbor_behind : Version → ℕ → Adjacency → Option (List ℕ) → List ℕ
+neighbor_behind version number adjacency None = remark_text adjacency.name (closed_text version)
+neighbor_behind version number adjacency (Some interface) = neighbor_text version number adjacency.mac interface
+
+-- both
+abbrev pub neighbor_both : Graph → ℕ → Adjacency → List ℕ
+neighbor_both graph number adjacency =
+    neighbor_behind Ip4 number adjacency (interface_of Ip4 graph number) ++ neighbor_behind Ip6 number adjacency (interface_of Ip6 graph number)
 
 -- the commands for the neighbor of a number
 abbrev pub neighbor_at : Graph → ℕ → List ℕ
-neighbor_at graph number =
-    option_map_or (λ (adjacency : Adjacency). neighbor_behind number adjacency (interface_of graph number)) (slice_get graph.adjacencies number) []
+neighbor_at graph number = option_map_or (neighbor_both graph number) (slice_get graph.adjacencies number) []
 
 -- ---- routes
 
@@ -135,21 +168,21 @@ route_begin Ip6 = codes "ip -6 route replace "
 abbrev pub way_over : Version → (begin : List ℕ) → ℕ → (interface : List ℕ) → List ℕ
 way_over version begin number interface = begin ++ (codes " via " ++ (neighbor_address version number ++ (codes " dev " ++ (interface ++ codes " onlink"))))
 
--- the way over the neighbor of a number, where its interface is up
+-- the way over the neighbor of a number, where its interface is open
 abbrev pub way_text : Version → Graph → (begin : List ℕ) → ℕ → List ℕ
-way_text version graph begin number = option_map_or (way_over version begin number) (interface_of graph number) []
+way_text version graph begin number = option_map_or (way_over version begin number) (interface_of version graph number) []
 
 -- the word for each way, where there are several
 abbrev pub way_begin : List ℕ → List ℕ
 way_begin members = if length members == 1 then [] else codes " nexthop"
 
--- the interface of the neighbor of a number is down
-abbrev pub is_down : Graph → ℕ → Bool
-is_down graph number = is_none (interface_of graph number)
+-- the interface of the neighbor of a number isn't open
+abbrev pub is_closed : Version → Graph → ℕ → Bool
+is_closed version graph number = is_none (interface_of version graph number)
 
--- the word of a route over neighbors whose interfaces are all down
-abbrev pub hole_word : Graph → List ℕ → List ℕ
-hole_word graph members = if list_all (is_down graph) members then codes "blackhole " else []
+-- the word of a route over neighbors whose interfaces are none of them open
+abbrev pub hole_word : Version → Graph → List ℕ → List ℕ
+hole_word version graph members = if list_all (is_closed version graph) members then codes "blackhole " else []
 
 -- the ways over neighbors, each behind a word
 abbrev pub ways_text : Version → Graph → (begin members : List ℕ) → List ℕ
@@ -158,12 +191,33 @@ ways_text version graph begin members = flat_map (λ number. way_text version gr
 -- the command that sets a route over neighbors
 abbrev pub route_over : Version → Graph → (prefix members : List ℕ) → List ℕ
 route_over version graph prefix members =
-    route_begin version ++ (hole_word graph members ++ (prefix ++ (ways_text version graph (way_begin members) members ++ 10 ∷ [])))
+    route_begin version ++ (hole_word version graph members ++ (prefix ++ (ways_text version graph (way_begin members) members ++ 10 ∷ [])))
+
+-- a number stands once among these; each of them does
+abbrev pub stands_once : List ℕ → ℕ → Bool
+stands_once members number = count_by (λ member. member == number) members == 1
+
+abbrev pub stand_once : List ℕ → Bool
+stand_once members = list_all (stands_once members) members
+
+-- ip can say a route over neighbors: by IPv6 where each stands once
+abbrev pub is_sayable_over : Version → List ℕ → Bool
+is_sayable_over Ip4 members = true
+is_sayable_over Ip6 members = stand_once members
+
+-- the command for it, or a comment in its place
+abbrev pub via_text : Version → Graph → (prefix members : List ℕ) → List ℕ
+via_text version graph prefix members =
+    if is_sayable_over version members then route_over version graph prefix members else remark_text prefix (codes "has a neighbor twice, which ip can't say")
+
+-- the command that sets a route to this host: in the table of the others, or else it is asked first
+abbrev pub local_text : Version → (prefix : List ℕ) → List ℕ
+local_text version prefix = route_begin version ++ (codes "local " ++ (prefix ++ line_text (codes " dev lo table main")))
 
 -- the command that sets the route of a prefix
 abbrev pub route_text : Version → Graph → (prefix : List ℕ) → RouteTo → List ℕ
-route_text version graph prefix (targets.Via members) = route_over version graph prefix members
-route_text version graph prefix targets.Local = route_begin version ++ (codes "local " ++ (prefix ++ (codes " dev lo" ++ 10 ∷ [])))
+route_text version graph prefix (targets.Via members) = via_text version graph prefix members
+route_text version graph prefix targets.Local = local_text version prefix
 route_text version graph prefix targets.Drop = route_begin version ++ (codes "blackhole " ++ (prefix ++ 10 ∷ []))
 
 -- the same for a route of the table of IPv4, and of that of IPv6

@@ -1,7 +1,7 @@
 //! What `vgdiff` reads, finds and prints: how the packets that another router put out differ from those of a run.
 //!
 //! In which order to read: `top`, `words` with `prefixes`, `input` with `numbers`, `differences`, `orders` with `flows`, `lines` with `rows`, `texts`
-//! and `classes`, `answers`; then `linux` with `addresses`, `refusals`, `printing`; `explaining` by itself.
+//! and `classes`, `answers`; then `linux` with `addresses` and `reach`, `refusals`, `printing`; `explaining` by itself.
 #![tactic(auto)]
 
 pub mod addresses;
@@ -17,6 +17,7 @@ pub mod numbers;
 pub mod orders;
 pub mod prefixes;
 pub mod printing;
+pub mod reach;
 pub mod refusals;
 pub mod rows;
 pub mod texts;

@@ -1,37 +1,18 @@
 //! The kernel's router of a script's start graph, as commands `ip` of iproute2 for a shell. What they can't say is a line of a comment.
 //! A neighbor has no IP address in a script, so each gets two by its number, which leave no interface: 198.18.0.1 and on, of the block for
 //! measurements of routers (RFC 2544, appendix C.2.2), and fe80::1 and on (RFC 4291, section 2.5.6).
-ghost use Rattle.std.specs.Prelude.{◌≡◌, ◌<◌, ◌++◌, length, flat_map, option_map, IfOk, IfSome, OnOk};
-ghost use Rattle.std.specs.List.{list_all};
+ghost use Rattle.std.specs.Prelude.{◌≡◌, ◌<◌, ◌++◌, length, flat_map, option_map, IfOk, OnOk};
 ghost use Rattle.vg_model.specs.Graph.{with_routes};
 ghost use Rattle.vg_diff.specs.Linux as specs;
 
 use crate::addresses::{put_address, put_group, put_mac, put_prefix, put_prefix6};
+use crate::reach::{Version, are_closed, interface_of, is_sayable, is_sayable_over};
 use crate::texts::{put, put_decimal};
 use std::alloc::{AllocError, Global};
 use vg_graph::Graph;
 use vg_model::{Adjacency, Edit, EditLine, Interface, Mac, Name, Prefix, Prefix6, RouteTo};
 use vg_plan::{Master, Plan};
 use vg_script::{Block, Script};
-
-// What differs between the commands of IPv4 and of IPv6.
-#[derive(Clone, Copy, PartialEq, Eq)]
-enum Version {
-    Ip4,
-    Ip6,
-}
-
-impl Version {
-    // The beginning of a command that sets a route.
-    fn route(self) -> &'static [u8]
-        ensures { result.now ≡ specs.route_begin self }
-    {
-        match self {
-            Version::Ip4 => b"ip route replace ",
-            Version::Ip6 => b"ip -6 route replace ",
-        }
-    }
-}
 
 // Appends a line.
 fn put_line(out: &mut Vec<u8>, text: &[u8]) -> Result<(), AllocError>
@@ -96,11 +77,11 @@ fn put_head(out: &mut Vec<u8>) -> Result<(), AllocError>
 }
 
 // Appends a line of a comment on something of this name.
-fn put_remark(out: &mut Vec<u8>, name: &Name, remark: &[u8]) -> Result<(), AllocError>
+fn put_remark(out: &mut Vec<u8>, name: &[u8], remark: &[u8]) -> Result<(), AllocError>
     ensures { OnOk result (out.new.items ≡ out.old.items ++ specs.remark_text name.now remark.now) }
 {
     put(out, b"# ")?;
-    put(out, name.bytes())?;
+    put(out, name)?;
     put(out, b" ")?;
     put(out, remark)?;
     put(out, b"\n")
@@ -167,15 +148,22 @@ fn put_filter(out: &mut Vec<u8>, interface: &Interface) -> Result<(), AllocError
     }
     put_remark(
         out,
-        &interface.name,
+        interface.name.bytes(),
         b"takes frames to every address; the kernel's router takes those to its own",
     )
 }
 
-// Appends the command that sets an interface.
+// Appends the command that sets an interface, or a comment in its place.
 fn put_interface(out: &mut Vec<u8>, interface: &Interface) -> Result<(), AllocError>
     ensures { OnOk result (out.new.items ≡ out.old.items ++ specs.interface_text interface.now) }
 {
+    if !is_sayable(interface) {
+        return put_remark(
+            out,
+            interface.name.bytes(),
+            b"has a name of more than 15 letters or an address of no station, which ip can't say",
+        );
+    }
     put_link(out, interface)?;
     put_state(out, interface)?;
     put_filter(out, interface)
@@ -189,40 +177,6 @@ fn put_interfaces(out: &mut Vec<u8>, graph: &Graph) -> Result<(), AllocError>
         put_interface(out, graph.interface_at(number))?;
     }
     Ok(())
-}
-
-// The name of an interface that is up.
-fn name_if_up(interface: &Interface) -> Option<&Name>
-    ensures { option_map (λ name. name.now) result ≡ specs.name_if_up interface.now }
-{
-    if interface.up {
-        Some(&interface.name)
-    } else {
-        None
-    }
-}
-
-// The interface of a number, where it is up.
-fn up_at(graph: &Graph, number: u16) -> Option<&Name>
-    ensures { option_map (λ name. name.now) result ≡ specs.up_at graph.now number }
-{
-    if number < graph.interfaces() {
-        name_if_up(graph.interface_at(number))
-    } else {
-        None
-    }
-}
-
-// The interface of the neighbor of a number, where it is up.
-fn interface_of(graph: &Graph, number: u16) -> Option<&Name>
-    ensures name { option_map (λ name. name.now) result ≡ specs.interface_of graph.now number }
-    ensures few { IfSome result (λ _. number < 65535) }
-{
-    if number < graph.adjacencies() {
-        up_at(graph, graph.adjacency_at(number).interface)
-    } else {
-        None
-    }
 }
 
 // Appends the address of the neighbor of a number.
@@ -280,27 +234,47 @@ fn put_neighbor(
     put(out, b" nud permanent\n")
 }
 
-// Appends the commands that set both addresses of a neighbor behind this interface; none where it is down: the kernel has no neighbor there.
+// What is said of a neighbor where its interface isn't open.
+fn closed_text(version: Version) -> &'static [u8]
+    ensures { result.now ≡ specs.closed_text version }
+{
+    match version {
+        Version::Ip4 => b"is behind an interface which isn't up",
+        Version::Ip6 => b"has no IPv6: its interface isn't up, or has an mtu below 1280",
+    }
+}
+
+// Appends the command that sets an address of a neighbor behind this interface; none where it isn't open: the kernel has no neighbor there.
 fn put_neighbor_behind(
     out: &mut Vec<u8>,
+    version: Version,
     number: u16,
     adjacency: &Adjacency,
     interface: Option<&Name>,
 ) -> Result<(), AllocError>
     requires { number < 65535 }
-    ensures { OnOk result (out.new.items ≡ out.old.items ++ specs.neighbor_behind number adjacency.now (option_map (λ name. name.now) interface.entry)) }
+    ensures { OnOk result (out.new.items ≡ out.old.items ++ specs.neighbor_behind version number adjacency.now (option_map (λ name. name.now) interface.entry)) }
 {
     match interface {
-        Some(interface) => {
-            put_neighbor(out, Version::Ip4, number, adjacency.mac, interface)?;
-            put_neighbor(out, Version::Ip6, number, adjacency.mac, interface)
-        }
-        None => put_remark(
-            out,
-            &adjacency.name,
-            b"is behind an interface which is down",
-        ),
+        Some(interface) => put_neighbor(out, version, number, adjacency.mac, interface),
+        None => put_remark(out, adjacency.name.bytes(), closed_text(version)),
     }
+}
+
+// Appends the commands that set both addresses of a neighbor.
+fn put_neighbor_both(
+    out: &mut Vec<u8>,
+    graph: &Graph,
+    number: u16,
+    adjacency: &Adjacency,
+) -> Result<(), AllocError>
+    requires { number < 65535 }
+    ensures { OnOk result (out.new.items ≡ out.old.items ++ specs.neighbor_both graph.now number adjacency.now) }
+{
+    let ip4 = interface_of(Version::Ip4, graph, number);
+    put_neighbor_behind(out, Version::Ip4, number, adjacency, ip4)?;
+    let ip6 = interface_of(Version::Ip6, graph, number);
+    put_neighbor_behind(out, Version::Ip6, number, adjacency, ip6)
 }
 
 // Appends the commands that set the addresses of all neighbors.
@@ -308,8 +282,7 @@ fn put_neighbors(out: &mut Vec<u8>, graph: &Graph) -> Result<(), AllocError>
     ensures { OnOk result (out.new.items ≡ out.old.items ++ specs.neighbors_text graph.now) }
 {
     for number in 0..graph.adjacencies() {
-        let interface = interface_of(graph, number);
-        put_neighbor_behind(out, number, graph.adjacency_at(number), interface)?;
+        put_neighbor_both(out, graph, number, graph.adjacency_at(number))?;
     }
     Ok(())
 }
@@ -333,7 +306,7 @@ fn put_way_over(
     put(out, b" onlink")
 }
 
-// Appends the way over a neighbor, where its interface is up.
+// Appends the way over a neighbor, where its interface is open.
 fn put_way(
     out: &mut Vec<u8>,
     version: Version,
@@ -343,7 +316,7 @@ fn put_way(
 ) -> Result<(), AllocError>
     ensures { OnOk result (out.new.items ≡ out.old.items ++ specs.way_text version graph.now begin.now number) }
 {
-    match interface_of(graph, number) {
+    match interface_of(version, graph, number) {
         Some(interface) => put_way_over(out, version, begin, number, interface),
         None => Ok(()),
     }
@@ -372,32 +345,18 @@ fn put_ways(
     Ok(())
 }
 
-// Whether the interface of the neighbor of a number is down.
-fn is_down(graph: &Graph, number: u16) -> bool
-    ensures { result ≡ specs.is_down graph.now number }
+// The word of a route over neighbors behind interfaces none of which is open: it drops.
+fn hole_word(version: Version, graph: &Graph, members: &[u16]) -> &'static [u8]
+    ensures { result.now ≡ specs.hole_word version graph.now members.now }
 {
-    interface_of(graph, number).is_none()
-}
-
-// Whether the interfaces of all these neighbors are down.
-fn are_down(graph: &Graph, members: &[u16]) -> bool
-    ensures { result ≡ list_all (specs.is_down graph.now) members.now }
-{
-    members.iter().all(|member| is_down(graph, *member))
-}
-
-// The word of a route over neighbors behind interfaces which are all down: it drops.
-fn hole_word(graph: &Graph, members: &[u16]) -> &'static [u8]
-    ensures { result.now ≡ specs.hole_word graph.now members.now }
-{
-    if are_down(graph, members) {
+    if are_closed(version, graph, members) {
         b"blackhole "
     } else {
         b""
     }
 }
 
-// Appends the command that sets a route over neighbors, of those whose interface is up.
+// Appends the command that sets a route over neighbors, of those whose interface is open.
 fn put_route_over(
     out: &mut Vec<u8>,
     version: Version,
@@ -408,10 +367,37 @@ fn put_route_over(
     ensures { OnOk result (out.new.items ≡ out.old.items ++ specs.route_over version graph.now prefix.now members.now) }
 {
     put(out, version.route())?;
-    put(out, hole_word(graph, members))?;
+    put(out, hole_word(version, graph, members))?;
     put(out, prefix)?;
     put_ways(out, version, graph, way_begin(members), members)?;
     put(out, b"\n")
+}
+
+// Appends the command that sets a route over neighbors, or a comment in its place.
+fn put_via(
+    out: &mut Vec<u8>,
+    version: Version,
+    graph: &Graph,
+    prefix: &[u8],
+    members: &[u16],
+) -> Result<(), AllocError>
+    ensures { OnOk result (out.new.items ≡ out.old.items ++ specs.via_text version graph.now prefix.now members.now) }
+{
+    if is_sayable_over(version, members) {
+        put_route_over(out, version, graph, prefix, members)
+    } else {
+        put_remark(out, prefix, b"has a neighbor twice, which ip can't say")
+    }
+}
+
+// Appends the command that sets a route to this host, in the table of the others: that of its own is asked first.
+fn put_local(out: &mut Vec<u8>, version: Version, prefix: &[u8]) -> Result<(), AllocError>
+    ensures { OnOk result (out.new.items ≡ out.old.items ++ specs.local_text version prefix.now) }
+{
+    put(out, version.route())?;
+    put(out, b"local ")?;
+    put(out, prefix)?;
+    put_line(out, b" dev lo table main")
 }
 
 // Appends the command that sets the route of a prefix.
@@ -425,13 +411,8 @@ fn put_route(
     ensures { OnOk result (out.new.items ≡ out.old.items ++ specs.route_text version graph.now prefix.now to.now) }
 {
     match to {
-        RouteTo::Via(members) => put_route_over(out, version, graph, prefix, members.as_slice()),
-        RouteTo::Local => {
-            put(out, version.route())?;
-            put(out, b"local ")?;
-            put(out, prefix)?;
-            put(out, b" dev lo\n")
-        }
+        RouteTo::Via(members) => put_via(out, version, graph, prefix, members.as_slice()),
+        RouteTo::Local => put_local(out, version, prefix),
         RouteTo::Drop => {
             put(out, version.route())?;
             put(out, b"blackhole ")?;

@@ -256,6 +256,27 @@ fn each_behind_one_that_had_to_come_later_is_reordered(rt: HostRuntime) {
 }
 
 #[test]
+fn of_equal_packets_the_first_are_matched(rt: HostRuntime) {
+    let found = compare_with(&rt, &[], &[&FIRST, &FIRST], &[&FIRST, &FIRST]);
+    expect(&rt, &found, 0, b"same 2\nreordered 0\nnoise 0 0\nend\n");
+    let found = compare_with(&rt, &[], &[&FIRST, &FIRST], &[&FIRST]);
+    expect(
+        &rt,
+        &found,
+        9,
+        b"same 1\nmissing 2\nreordered 0\nnoise 0 0\nend\n",
+    );
+    let other = changed(&rt, &FIRST, 22, 64);
+    let found = compare_with(&rt, &[], &[&FIRST, &FIRST], &[other.as_slice()]);
+    expect(
+        &rt,
+        &found,
+        9,
+        b"same 0\nchanged 0 ttl 3f 40\nmissing 2\nreordered 0\nnoise 0 0\nend\n",
+    );
+}
+
+#[test]
 fn savefiles_are_numbered_one_behind_the_other(rt: HostRuntime) {
     let found = compare_two(&rt, &[&FIRST], &[&SECOND, &ASTRAY]);
     expect(
