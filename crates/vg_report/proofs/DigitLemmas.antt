@@ -1,4 +1,4 @@
--- For the clause of `lay_leg`: the two digits of a number below 100.
+-- For the clause of `lay_digits`: the two digits of a number below 100.
 use Rattle.std.proofs.Common.{◌≡◌, ℕ, zero, suc, ◌+◌, ◌-◌, ◌*◌, ◌/◌, ◌%◌, ◌<◌, Bool, true, ◌&&◌, eqb, get_or, inl, inr, arith, eq-zero-or-pos, eqb→eq, T}
 use Rattle.vg_report.specs.declared.laying.TheConstants.{PAIRS}
 use lib.Ieee.Fits.{and_l, and_r}

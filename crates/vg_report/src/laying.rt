@@ -1,5 +1,6 @@
 //! The lines of most packets, laid one behind the other into a list from which many are appended at once.
-ghost use Rattle.std.specs.Prelude.{◌≡◌, ◌+◌, ◌/◌, ◌%◌, ◌<◌, ◌≤◌, ◌^◌, ◌++◌, ◌∷◌, codes, decimal, length, map, take, IfSome};
+ghost use Rattle.std.specs.Prelude.{◌≡◌, ◌+◌, ◌*◌, ◌/◌, ◌%◌, ◌<◌, ◌≤◌, ◌^◌, ◌++◌, [], ◌∷◌, codes, decimal, length, map, take, IfSome};
+ghost use Rattle.std.specs.Bool.{OnTrue};
 ghost use Rattle.vg_fates.specs.Seen.{fate_seen};
 ghost use Rattle.vg_report.specs.Text.{leg_text, sent_end as sent_end_of};
 ghost use Rattle.vg_report.specs.Named.{IsNamed};
@@ -19,21 +20,22 @@ pub(crate) const LINE_ROOM: usize = ROOM + 6 + ROOM;
 static PAIRS: [u8; 200] =
     *b"00010203040506070809101112131415161718192021222324252627282930313233343536373839404142434445464748495051525354555657585960616263646566676869707172737475767778798081828384858687888990919293949596979899";
 
-/// The front of the lines of a hundred packets: `packet`, and the digits of their numbers but for the last two.
+/// The front of a packet's line: `packet`, and the number of the packet. All digits but the last two stand ready, for a hundred packets.
 #[derive(Drop)]
 pub(crate) struct Front {
     hundred: usize,
+    low: usize,
     text: Piece,
 }
 
 impl Model for Front {
-    ghost use Rattle.std.specs.Prelude.{◌≡◌, ◌++◌, ℕ, codes, decimal};
+    ghost use Rattle.std.specs.Prelude.{◌≡◌, ◌+◌, ◌*◌, ◌<◌, ◌++◌, ℕ, codes, decimal};
 
     ghost Value = { ℕ };
 
-    ghost view = { λ f. f.hundred };
+    ghost view = { λ f. f.hundred * 100 + f.low };
 
-    ghost invariant = { λ f. f.text ≡ codes "packet " ++ decimal f.hundred };
+    ghost invariant = { λ f. (f.low < 100) × (f.text ≡ codes "packet " ++ decimal f.hundred) };
 }
 
 /// The end of the lines of packets that a node dropped with an error.
@@ -52,30 +54,37 @@ pub(crate) struct Short<'a> {
 }
 
 impl Front {
-    /// The front of the lines of a hundred packets.
+    // The front of the line of the first packet of a hundred.
     fn of(hundred: usize) -> Front
         requires { hundred < 2 ^ 64 }
-        ensures { result ≡ hundred }
+        ensures { result ≡ hundred * 100 }
     {
         let mut text = Piece::of(b"packet ");
         text.add(Buffer::new().format(hundred as u64).as_bytes());
-        Front { hundred, text }
+        Front {
+            hundred,
+            low: 0,
+            text,
+        }
     }
 
-    /// The front of the lines of the first hundred packets.
+    /// The front of the line of the first packet.
     pub(crate) fn first() -> Front
         ensures { result ≡ 0 }
     {
         Front::of(0)
     }
 
-    /// Goes on to the hundred in which a packet is.
+    /// Goes on to the next packet.
     #[inline]
-    pub(crate) fn turn_to(&mut self, number: usize)
-        ensures { self.new ≡ number / 100 }
+    pub(crate) fn step(&mut self)
+        requires { self.old < 2 ^ 64 }
+        ensures { self.new ≡ self.old + 1 }
     {
-        if number / 100 != self.hundred {
-            self.renew(number / 100);
+        if self.low < 99 {
+            self.low += 1;
+        } else {
+            self.renew(self.hundred + 1);
         }
     }
 
@@ -83,65 +92,71 @@ impl Front {
     #[inline(never)]
     fn renew(&mut self, hundred: usize)
         requires { hundred < 2 ^ 64 }
-        ensures { self.new ≡ hundred }
+        ensures { self.new ≡ hundred * 100 }
     {
         *self = Front::of(hundred);
     }
 
-    /// Lays it into a list, from this place on, and answers where it ends.
+    // Whether the number has three digits or more.
+    #[inline]
+    fn is_high(&self) -> bool
+        ensures { OnTrue result (100 ≤ self.now) }
+    {
+        self.hundred > 0
+    }
+
+    // Lays it into a list, from this place on, and answers where it ends.
     #[inline]
     fn lay(&self, list: &mut [u8], at: usize) -> usize
-        requires { at + 40 ≤ length list.old }
-        ensures end { result ≤ at + 40 }
+        requires room { at + 42 ≤ length list.old }
+        requires number { (100 ≤ self.now) × (self.now < 2 ^ 64) }
+        ensures end { result ≤ at + 42 }
         ensures laid { take result list.new ≡ take at list.old ++ (codes "packet " ++ decimal self.now) }
     {
-        self.text.lay(list, at)
+        let end = self.text.lay(list, at);
+        lay_digits(list, end, self.low)
     }
 }
 
-// Lays six bytes, and answers where they end.
+// Lays the two digits of a number below 100, and answers where they end.
 #[inline]
-fn lay_six(list: &mut [u8], at: usize, bytes: &[u8; 6]) -> usize
-    requires { at + 6 ≤ length list.old }
-    ensures end { result ≡ at + 6 }
-    ensures laid { take result list.new ≡ take at list.old ++ bytes.now }
+fn lay_digits(list: &mut [u8], at: usize, number: usize) -> usize
+    requires room { at + 2 ≤ length list.old }
+    requires low { number < 100 }
+    ensures end { result ≡ at + 2 }
+    ensures laid { take result list.new ≡ take at list.old ++ ((48 + number / 10) ∷ (48 + number % 10) ∷ []) }
 {
-    list[at..at + 6].copy_from_slice(bytes);
-    at + 6
+    list[at] = PAIRS[number * 2];
+    list[at + 1] = PAIRS[number * 2 + 1];
+    at + 2
 }
 
-// Lays the last two digits of a number, a space, and a leg whose two numbers have one digit. Answers where they end.
+// Lays a space, and a leg whose two numbers have one digit. Answers where they end.
 #[inline]
-fn lay_leg(list: &mut [u8], at: usize, low: usize, leg: Leg) -> usize
-    requires room { at + 6 ≤ length list.old }
-    requires low { low < 100 }
+fn lay_leg(list: &mut [u8], at: usize, leg: Leg) -> usize
+    requires room { at + 4 ≤ length list.old }
     requires leg { (leg.worker < 10) × (leg.generation < 10) }
-    ensures end { result ≡ at + 6 }
-    ensures laid { take result list.new ≡ take at list.old ++ ((48 + low / 10) ∷ (48 + low % 10) ∷ 32 ∷ leg_text leg) }
+    ensures end { result ≡ at + 4 }
+    ensures laid { take result list.new ≡ take at list.old ++ 32 ∷ leg_text leg }
 {
-    let (tens, ones) = (PAIRS[low * 2], PAIRS[low * 2 + 1]);
-    let worker = b'0' + leg.worker;
-    let generation = b'0' + leg.generation as u8;
-    lay_six(list, at, &[tens, ones, b' ', worker, b':', generation])
+    list[at] = b' ';
+    list[at + 1] = b'0' + leg.worker;
+    list[at + 2] = b':';
+    list[at + 3] = b'0' + leg.generation as u8;
+    at + 4
 }
 
-/// Lays the line of a packet whose number ends with these two digits, behind the front of its hundred. Answers where it ends.
+/// Lays the line of a packet: its front, its leg and its end. Answers where it ends.
 #[inline]
-pub(crate) fn lay_line(
-    list: &mut [u8],
-    at: usize,
-    front: &Front,
-    low: usize,
-    short: Short<'_>,
-) -> usize
+pub(crate) fn lay_line(list: &mut [u8], at: usize, front: &Front, short: Short<'_>) -> usize
     requires room { at + 86 ≤ length list.old }
-    requires low { low < 100 }
+    requires number { (100 ≤ front.now) × (front.now < 2 ^ 64) }
     requires leg { (short.leg.worker < 10) × (short.leg.generation < 10) }
     ensures end { result ≤ at + 86 }
-    ensures laid { take result list.new ≡ take at list.old ++ ((codes "packet " ++ decimal front.now) ++ ((48 + low / 10) ∷ (48 + low % 10) ∷ 32 ∷ (leg_text short.entry.leg ++ short.entry.end.now))) }
+    ensures laid { take result list.new ≡ take at list.old ++ ((codes "packet " ++ decimal front.now) ++ 32 ∷ (leg_text short.entry.leg ++ short.entry.end.now)) }
 {
-    let number_end = front.lay(list, at);
-    let leg_end = lay_leg(list, number_end, low, short.leg);
+    let front_end = front.lay(list, at);
+    let leg_end = lay_leg(list, front_end, short.leg);
     short.end.lay(list, leg_end)
 }
 
@@ -173,10 +188,10 @@ fn ready_end<'a>(
     }
 }
 
-/// What is laid of the line of the packet with this number and fate, where all of it stands ready.
+/// What is laid of the line of a packet with this fate behind its front, where all of it stands ready.
 #[inline]
 pub(crate) fn short_of<'a>(
-    number: usize,
+    front: &Front,
     fate: FateRef<'_>,
     names: &NamedFates<'_>,
     sent: &'a [Piece],
@@ -185,11 +200,11 @@ pub(crate) fn short_of<'a>(
     requires named { IsNamed names.now.interfaces.now names.now.nodes.now (fate_seen fate).end }
     requires sent { sent.now ≡ map sent_end_of names.now.interfaces.now }
     requires dropped { IfSome dropped.now (IsReady names.now.interfaces.now names.now.nodes.now) }
-    ensures { IfSome result (λ short. IsShort names.now.interfaces.now names.now.nodes.now number (fate_seen fate.entry) short.leg short.end.now) }
+    ensures { IfSome result (λ short. IsShort names.now.interfaces.now names.now.nodes.now front.now (fate_seen fate.entry) short.leg short.end.now) }
 {
     match fate {
         FateRef::Plain { leg, end, .. } => {
-            if number < 100 || leg.worker >= 10 || leg.generation >= 10 {
+            if !front.is_high() || leg.worker >= 10 || leg.generation >= 10 {
                 return None;
             }
             match ready_end(end, names, sent, dropped) {

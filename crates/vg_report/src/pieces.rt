@@ -49,7 +49,7 @@ impl Piece {
     }
 
     /// Lays the text into a list, from this place on, and answers where it ends. What stood behind it, as far as the room reaches, is gone.
-    #[inline]
+    #[inline(always)]
     pub(crate) fn lay(&self, list: &mut [u8], at: usize) -> usize
         requires { at + 40 ≤ length list.old }
         ensures end { result ≤ at + 40 }

@@ -372,20 +372,23 @@ fn put_lines_by(
     let mut dropped = None;
     let mut front = Front::first();
     let mut at = 0;
-    for number in 0..names.fates.len() {
-        front.turn_to(number);
-        let fate = names.fates.view(number);
-        match short_of(number, fate, names, sent, &dropped) {
+    let fates = names.fates;
+    for number in 0..fates.len() {
+        let fate = fates.view(number);
+        match short_of(&front, fate, names, sent, &dropped) {
             Some(short) => {
-                let end = lay_line(window, at, &front, number % 100, short);
+                let end = lay_line(window, at, &front, short);
                 at = put_full(out, window, end)?;
             }
             None => {
-                put_behind(out, &window[..at], number, fate, names)?;
+                // It is looked up once more, so that the lines that are laid need no more of a fate than its leg and its end.
+                let other = fates.view(number);
+                put_behind(out, &window[..at], number, other, names)?;
                 at = 0;
-                dropped = first_dropped(alloc, names, dropped, end_of(fate))?;
+                dropped = first_dropped(alloc, names, dropped, end_of(other))?;
             }
         }
+        front.step();
     }
     put(out, &window[..at])
 }
