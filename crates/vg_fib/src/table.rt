@@ -1,5 +1,5 @@
 //! The table of IPv4 routes.
-ghost use Rattle.std.specs.Prelude.{◌≡◌, ◌↔◌, ℕ, ◌<◌, ◌≤◌, ◌∷◌, ◌++◌, [], length, map, remove, slice_index, IfErr, IfOk, IsErr, IsOk, IsTrue, OnErr, OnOk, MatchOption, MatchResult};
+ghost use Rattle.std.specs.Prelude.{◌≡◌, ◌↔◌, true, ℕ, ◌<◌, ◌≤◌, ◌∷◌, ◌++◌, [], length, map, remove, slice_index, IfErr, IfOk, IsErr, IsOk, IsTrue, OnErr, OnOk, MatchOption, MatchResult};
 ghost use Rattle.std.specs.List.{insert};
 ghost use Rattle.vg_model.specs.Route.{best_route, covers as covers_address, ip4};
 ghost use Rattle.vg_model.specs.Edit.{most_routes, placed, route_place};
@@ -205,7 +205,20 @@ fn rank(prefix: Prefix) -> u64
     256 * u64::from(prefix.addr) + u64::from(prefix.len)
 }
 
-// Where the place of a prefix stands in the order, or where it would have to be put.
+// Whether all prefixes in the order come before one of this rank.
+fn come_before(routes: &[(Prefix, RouteTo)], order: &[u16], wanted: u64) -> bool
+    requires { IsOrder (ranks ip4 routes.now) order.now }
+    ensures { result ≡ true → IsGap (ranks ip4 routes.now) order.now wanted (length order.now) }
+{
+    if order.is_empty() {
+        return true;
+    }
+    let last = order.len() - 1;
+    rank(routes[usize::from(order[last])].0) < wanted
+}
+
+// Where the place of a prefix stands in the order, or where it would have to be put. Routes are often set in the order of their prefixes,
+// so the last one is looked at first.
 fn place_in_order(
     routes: &[(Prefix, RouteTo)],
     order: &[u16],
@@ -217,6 +230,9 @@ fn place_in_order(
         (λ at. (route_place prefix routes.now ≡ None) × IsGap (ranks ip4 routes.now) order.now (rank_of ip4 prefix) at) }
 {
     let wanted = rank(prefix);
+    if come_before(routes, order, wanted) {
+        return Err(order.len());
+    }
     let mut from = 0;
     let mut to = order.len();
     while from < to {

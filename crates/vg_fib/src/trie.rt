@@ -261,10 +261,12 @@ impl Levels {
         requires fits { FitsEntries change }
         ensures { IsRaisedFirst (changed_by ip4 slots.now change) from count self.old self.new }
     {
+        let mut last = Became::of(slots, change, 0);
         for place in from..from + count {
             match self.first[place].entry() {
                 Entry::Leaf(old) => {
-                    self.first[place] = Packed::leaf(changed_by(slots, change, old));
+                    last = last.next(slots, change, old);
+                    self.first[place] = Packed::leaf(last.after);
                 }
                 Entry::Child(child) => raise_second(
                     &mut self.second,
@@ -500,6 +502,36 @@ fn changed_by(slots: &[Slot], change: Change, old: u16) -> u16
     }
 }
 
+// What became of a number. Side by side most addresses have the same one, of which this is worked out once.
+#[derive(Clone, Copy)]
+struct Became {
+    number: u16,
+    after: u16,
+}
+
+impl Became {
+    // What becomes of a number.
+    fn of(slots: &[Slot], change: Change, number: u16) -> Became
+        ensures number { result.number ≡ number }
+        ensures after { result.after ≡ changed_by ip4 slots.now change number }
+    {
+        let after = changed_by(slots, change, number);
+        Became { number, after }
+    }
+
+    // What becomes of the number at the next place.
+    fn next(self, slots: &[Slot], change: Change, number: u16) -> Became
+        requires { self.after ≡ changed_by ip4 slots.now change self.number }
+        ensures number { result.number ≡ number }
+        ensures after { result.after ≡ changed_by ip4 slots.now change number }
+    {
+        if number == self.number {
+            return self;
+        }
+        Became::of(slots, change, number)
+    }
+}
+
 // The number of the longest route around a prefix that has none itself; 0 where there is none.
 fn heir(slots: &[Slot], prefix: Prefix) -> u16
     requires { length slots.now ≤ most_slots }
@@ -528,9 +560,13 @@ fn raise_second(
     requires fits { FitsEntries change }
     ensures { IsRaisedSecond (changed_by ip4 slots.now change) from count second.old.items third.old.items second.new.items third.new.items }
 {
+    let mut last = Became::of(slots, change, 0);
     for place in from..from + count {
         match second[place].entry() {
-            Entry::Leaf(old) => second[place] = Packed::leaf(changed_by(slots, change, old)),
+            Entry::Leaf(old) => {
+                last = last.next(slots, change, old);
+                second[place] = Packed::leaf(last.after);
+            }
             Entry::Child(child) => {
                 raise_third(third, slots, change, CHILD * child as usize, CHILD)
             }
@@ -543,8 +579,10 @@ fn raise_third(third: &mut Vec<u16>, slots: &[Slot], change: Change, from: usize
     requires { from + count ≤ length third.old.items }
     ensures { IsRaised (changed_by ip4 slots.now change) from count third.old.items third.new.items }
 {
+    let mut last = Became::of(slots, change, 0);
     for place in from..from + count {
-        third[place] = changed_by(slots, change, third[place]);
+        last = last.next(slots, change, third[place]);
+        third[place] = last.after;
     }
 }
 

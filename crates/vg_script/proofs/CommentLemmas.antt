@@ -1,12 +1,12 @@
--- For `before_comment`: what stands before a line's comment.
+-- For `before_comment` and `first_line`: what stands before a line's comment, and plain bytes before a line feed.
 use Rattle.std.proofs.Common.{◌≡◌, ◌==◌, ℕ, ◌<◌, ◌≤◌, Bool, true, false, cond, not, ◌&&◌, ltb, List, length, take, get_or}
-use Rattle.std.proofs.Common.{refl, sym, ap, subst, ◌∙◌, arith, true≢false, ltb-true, ltb-false, eq-eqb, eqb-true}
+use Rattle.std.proofs.Common.{refl, sym, ap, subst, ◌∙◌, arith, true≢false, ltb-true, ltb-false, eq-eqb, ne_eqb, eqb-true}
 use Rattle.std.specs.Prelude.{Option, Some, None}
 use Rattle.std.specs.List.{position_or_len, list_all}
 use Rattle.std.proofs.lemmas.Bool.{and_parts, not-true, not-false}
 use Rattle.std.proofs.lemmas.List.{take_all, length-take-le, get_or-take}
 use Rattle.std.proofs.lemmas.List.Folds.{list_all_at}
-use Rattle.std.proofs.lemmas.List.Sums.{prefix_len-le-length, position_or_len_is, fails_before_first, passes_at_first, list_all-from_AllPass}
+use Rattle.std.proofs.lemmas.List.Sums.{prefix_len-le-length, position_or_len_is, fails_before_first, passes_at_first, list_all-from_AllPass, AllPass-from_list_all}
 use Rattle.std.proofs.lemmas.Option.{none-some, same_Some}
 use Rattle.vg_script.specs.Lines.{without_comment, is_allowed, is_plain}
 use Rattle.vg_script.proofs.SplitLemmas.{before_none}
@@ -39,16 +39,21 @@ plain_allowed line place within plain =
         ∙ (and_parts (is_allowed (get_or line k d)) (not (get_or line k d == 35)) (plain.each k d below)).0
 
 -- no comment, a comment behind plain bytes, and a byte that is not allowed
-no_comment : (line : List ℕ) → length line ≤ position_or_len is_other line → (line ≡ without_comment line) × (list_all is_allowed line ≡ true)
-no_comment line none =
-    let plain : ArePlain line (length line) = record {
-      each = λ k d below. not-false (is_plain (get_or line k d)) (fails_before_first is_other line k d (omega (arith, none, below)));
-    } in
+all_plain : (line : List ℕ) → ArePlain line (length line) → (line ≡ without_comment line) × (list_all is_allowed line ≡ true)
+all_plain line plain =
     let is : position_or_len (λ byte. byte == 35) line ≡ length line =
     position_or_len_is (λ byte. byte == 35) line (length line) 0 (omega arith) (λ k below. no_mark (get_or line k 0) (plain.each k 0 below)) (λ within. absurd (omega (arith, within))) in (
       sym (before_none (λ byte. byte == 35) line (omega (arith, is))),
       sym (ap (list_all is_allowed) (take_all (length line) line (omega arith))) ∙ plain_allowed line (length line) (omega arith) plain,
     )
+
+no_comment : (line : List ℕ) → length line ≤ position_or_len is_other line → (line ≡ without_comment line) × (list_all is_allowed line ≡ true)
+no_comment line none =
+    all_plain line (record { each = λ k d below. not-false (is_plain (get_or line k d)) (fails_before_first is_other line k d (omega (arith, none, below))) })
+
+-- a line that is known to be plain
+pub known_plain : (line : List ℕ) → list_all is_plain line ≡ true → (line ≡ without_comment line) × (list_all is_allowed line ≡ true)
+known_plain line known = all_plain line (record { each = λ k d below. AllPass-from_list_all is_plain line known k d below })
 
 a_comment : (line : List ℕ) (place : ℕ) → place < length line → ArePlain line place → get_or line place 0 ≡ 35
     → (take place line ≡ without_comment line) × (list_all is_allowed (take place line) ≡ true)
@@ -133,3 +138,22 @@ bad_line line place found unmarked =
     let other : is_plain (get_or line place 0) ≡ false =
     subst (λ n. is_plain (get_or line n 0) ≡ false) (sym is.0) (not-true (is_plain (get_or line (position_or_len is_other line) 0)) (passes_at_first is_other line 0 here)) in
     bad_byte line place is.1 (plain_before line place is.0) other unmarked
+
+-- plain bytes before a line feed are a line
+no_feed : (byte : ℕ) → is_plain byte ≡ true → (byte == 10) ≡ false
+no_feed byte plain = ne_eqb byte 10 (λ e. true≢false (sym plain ∙ ap is_plain e))
+
+pub feed_place : (text : List ℕ) (place : ℕ) → Found text (Some place) → get_or text place 0 ≡ 10 → position_or_len (λ byte. byte == 10) text ≡ place
+feed_place text place found at =
+    let is = found_place text place found in
+    let plain : ArePlain text place = plain_before text place is.0 in
+    position_or_len_is (λ byte. byte == 10) text place 0 (omega (arith, is.1)) (λ k below. no_feed (get_or text k 0) (plain.each k 0 below))
+    (λ _. eq-eqb (get_or text place 0) 10 at)
+
+pub plain_up_to : (text : List ℕ) (place : ℕ) → Found text (Some place) → list_all is_plain (take place text) ≡ true
+plain_up_to text place found =
+    let is = found_place text place found in
+    let plain : ArePlain text place = plain_before text place is.0 in
+    list_all-from_AllPass is_plain (take place text) (λ k d below.
+    let inside : k < place = subst (λ n. k < n) (length-take-le place text (omega (arith, is.1))) below in
+    ap is_plain (get_or-take place text k d inside) ∙ plain.each k d inside)

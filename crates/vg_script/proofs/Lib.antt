@@ -3,6 +3,7 @@ pub mod BlockExamples
 pub mod SplitLemmas
 pub mod ClassLemmas
 pub mod NumberLemmas
+pub mod FrontLemmas
 pub mod PartLemmas
 pub mod FormLemmas
 pub mod CommentLemmas

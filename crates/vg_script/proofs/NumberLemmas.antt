@@ -14,7 +14,7 @@ use Rattle.vg_script.proofs.ClassLemmas.{decimal_digits, long_decimal}
 use native.Mathlib.Decide.{dec_lt}
 
 -- a word that is no number, one that is, and one that is too large
-no_decimal : (word : List ℕ) (most : ℕ) → is_decimal word ≡ false → number_of 0 most word ≡ None
+pub no_decimal : (word : List ℕ) (most : ℕ) → is_decimal word ≡ false → number_of 0 most word ≡ None
 no_decimal word most h =
     ap (λ b. cond (b && leb 0 (digits_value 10 word) && leb (digits_value 10 word) most) (Some (digits_value 10 word)) None) h
 
@@ -78,7 +78,7 @@ by_digits word =
 in_range : (low high n : ℕ) → low ≤ n → n ≤ high → is_in_range low high n ≡ true
 in_range low high n above below = and_from (leb low n) (leb n high) (le-leb low n above) (le-leb n high below)
 
-range_low : (low high n : ℕ) → is_in_range low high n ≡ true → low ≤ n
+pub range_low : (low high n : ℕ) → is_in_range low high n ≡ true → low ≤ n
 range_low low high n h = leb-true low n (and_parts (leb low n) (leb n high) h).0
 
 range_high : (low high n : ℕ) → is_in_range low high n ≡ true → n ≤ high
@@ -93,7 +93,7 @@ leads a h =
     let low : 49 ≤ a = range_low 49 57 a h in
     (in_range 48 57 a (omega (arith, low)) (range_high 49 57 a h), ap not (ne_eqb a 48 (λ e. omega (arith, e, low))))
 
-leads_back : (a : ℕ) → is_ascii_digit a ≡ true → not (a == 48) ≡ true → is_in_range 49 57 a ≡ true
+pub leads_back : (a : ℕ) → is_ascii_digit a ≡ true → not (a == 48) ≡ true → is_in_range 49 57 a ≡ true
 leads_back a h other =
     let low : 48 ≤ a = range_low 48 57 a h in
     let not_zero : (a ≡ 48 → ⊥) = λ e. true≢false (sym other ∙ ap not (eq-eqb a 48 e)) in

@@ -1,7 +1,8 @@
 -- For `parse_script`, `read_line` and `Keyword::of`: lines that are read one by one.
 use Rattle.std.proofs.Common.{◌≡◌, ◌≢◌, ◌==◌, ℕ, suc, ◌+◌, ◌-◌, ◌<◌, ◌≤◌, Bool, true, false, cond, not, List, [], ◌∷◌, length, map, refl, sym, ap, subst, ◌∙◌, arith, le-ltb}
-use Rattle.std.specs.Prelude.{Option, Some, None, option_map, Result, Ok, Err, ok_or, find, bytes_eq}
+use Rattle.std.specs.Prelude.{Option, Some, None, option_map, Result, Ok, Err, ok_or, find, bytes_eq, codes}
 use Rattle.std.specs.List.{before_first, after_first, list_all}
+use Rattle.std.proofs.lemmas.Slice.Eq.{bytes_eq-Decides}
 use Rattle.vg_script.specs.declared.errors.ScriptCause.{ScriptCause}
 use Rattle.vg_script.specs.declared.errors.ScriptCause.TheVariants as causes
 use Rattle.vg_script.specs.declared.errors.ScriptError.{ScriptError}
@@ -36,6 +37,12 @@ pub row_found : (word : List ℕ) (keyword : Option Keyword) → keyword ≡ fin
     → row_of word ≡ option_map keyword_row keyword
 unfolding row_of
 row_found word keyword h = find-map keyword_row (λ r. bytes_eq word r.word) all_keywords ∙ ap (option_map keyword_row) (sym h)
+
+-- the word `route` begins a route
+pub route_found : (word : List ℕ) → bytes_eq word (codes "route") ≡ true → row_of word ≡ Some (keyword_row keywords.Route)
+unfolding row_of
+route_found word same =
+    subst (λ w. row_of w ≡ Some (keyword_row keywords.Route)) (sym ((bytes_eq-Decides word (codes "route")).0 same)) refl
 
 -- a line whose bytes are allowed
 pub allowed_line : (number : ℕ) (r : Reading) (line text : List ℕ) (ws : Words) → text ≡ without_comment line → list_all is_allowed text ≡ true

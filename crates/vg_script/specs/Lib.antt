@@ -1,4 +1,5 @@
 pub mod Parts
+pub mod Fronts
 pub mod Address6
 pub mod Causes
 pub mod Lines

@@ -1,10 +1,11 @@
 //! The classes of words.
-ghost use Rattle.std.specs.Prelude.{◌≡◌, ◌+◌, ◌++◌, ◌<◌, ◌≤◌, ◌==◌, ◌&&◌, if◌then◌else◌, true, nat_le, length, take, drop, unwrap_or, bytes_eq, decimal, Some, None, IfSome, MatchResult, ok_or, find, ◌-◌, ◌%◌, ◌^◌};
-ghost use Rattle.std.specs.Option.{ForSome};
+ghost use Rattle.std.specs.Prelude.{◌≡◌, ◌≢◌, [], ◌+◌, ◌++◌, ◌<◌, ◌≤◌, ◌==◌, ◌&&◌, if◌then◌else◌, true, nat_le, length, take, drop, unwrap_or, bytes_eq, decimal, Some, None, IfSome, MatchOption, MatchResult, ok_or, option_map, find, ◌-◌, ◌%◌, ◌^◌};
+ghost use Rattle.std.specs.Option.{ForSome, option_copied};
 ghost use Rattle.std.specs.Char.{is_ascii_digit};
 ghost use Rattle.std.specs.List.{before_first, after_first, list_all};
 ghost use Rattle.std.specs.Str.Parse.{digits_value};
 ghost use Rattle.vg_model.specs.Graph.{plain_kinds};
+ghost use Rattle.vg_script.specs.Fronts.{digit_in_front, behind_a_dot, number_in_front};
 ghost use Rattle.vg_script.specs.Reader.{Refuses};
 ghost use Rattle.vg_script.specs.Classes.{names_of, is_decimal as is_decimal_word, number_of, pair_of, mac_of, address_of, prefix_of};
 ghost use Rattle.vg_script.specs.Classes.{prefix6_of, is_word_for as kind_word_is, number_behind as number_behind_text, vlan_behind as vlan_behind_text, numbered_kind as numbered_kind_of, kind_of};
@@ -43,8 +44,13 @@ pub fn split_at_first(text: &[u8], mark: u8) -> (&[u8], &[u8])
 pub fn names(alloc: Global, word: &[u8]) -> Result<Names, ScriptCause>
     ensures { MatchResult result (λ names. names_of word.now ≡ Some names) (λ cause. Refuses (ok_or (names_of word.now) ScriptCause.Name) cause) }
 {
-    // Most words are one name.
-    let Ok(mut names) = Vec::with_capacity(alloc, 1) else {
+    // Most words are one name. For several there is room for as many as may be, so that the list never grows.
+    let room = if word.contains(&b',') {
+        MOST_MEMBERS
+    } else {
+        1
+    };
+    let Ok(mut names) = Vec::with_capacity(alloc, room) else {
         return Err(ScriptCause::Memory);
     };
     let mut rest = Some(word);
@@ -194,14 +200,72 @@ fn byte(word: &[u8]) -> Option<u8>
     Some(number as u8)
 }
 
+/// The digit that a text begins with, and what stands behind it.
+fn digit_front(text: &[u8]) -> Option<(u16, &[u8])>
+    ensures value { option_map (λ found. (found.0, found.1.now)) result ≡ digit_in_front text.now }
+    ensures small { IfSome result (λ found. found.0 ≤ 9) }
+{
+    match text {
+        [digit @ b'0'..=b'9', rest @ ..] => Some((u16::from(*digit - b'0'), rest)),
+        _ => None,
+    }
+}
+
+/// What stands behind the `.` that a text begins with.
+fn behind_dot(text: &[u8]) -> Option<&[u8]>
+    ensures { option_copied result ≡ behind_a_dot text.now }
+{
+    match text {
+        [b'.', rest @ ..] => Some(rest),
+        _ => None,
+    }
+}
+
+/// The number of one to three digits in front of a `.`, the first of several not 0, and what stands behind that `.`.
+fn number_before_dot(text: &[u8]) -> Option<(u16, &[u8])>
+    ensures value { option_map (λ found. (found.0, found.1.now)) result ≡ number_in_front text.now }
+    ensures small { IfSome result (λ found. found.0 ≤ 999) }
+{
+    let (first, rest) = digit_front(text)?;
+    if let Some(behind) = behind_dot(rest) {
+        return Some((first, behind));
+    }
+    if first == 0 {
+        return None;
+    }
+    let (second, rest) = digit_front(rest)?;
+    let number = first * 10 + second;
+    if let Some(behind) = behind_dot(rest) {
+        return Some((number, behind));
+    }
+    let (third, rest) = digit_front(rest)?;
+    let behind = behind_dot(rest)?;
+    Some((number * 10 + third, behind))
+}
+
+/// The byte that the digits before the first `.` say, and what stands behind that; `None` where they say none, or where no `.` stands.
+fn byte_before_dot(text: &[u8]) -> Option<(u8, &[u8])>
+    ensures { MatchOption result
+        (after_first (λ byte. byte == 46) text.now ≢ [] → None ≡ number_of 0 255 (before_first (λ byte. byte == 46) text.now))
+        (λ found. (Some found.0 ≡ number_of 0 255 (before_first (λ byte. byte == 46) text.now)) × (found.1.now ≡ after_first (λ byte. byte == 46) text.now)) }
+{
+    let (number, rest) = number_before_dot(text)?;
+    if number <= 255 {
+        Some((number as u8, rest))
+    } else {
+        None
+    }
+}
+
 /// The address that a text says.
 fn address(text: &[u8]) -> Option<u32>
     ensures { result ≡ address_of text.now }
 {
-    let (first, rest) = split_at_first(text, b'.');
-    let (second, rest) = split_at_first(rest, b'.');
-    let (third, fourth) = split_at_first(rest, b'.');
-    Some(u32::from_be_bytes([byte(first)?, byte(second)?, byte(third)?, byte(fourth)?]))
+    let (first, rest) = byte_before_dot(text)?;
+    let (second, rest) = byte_before_dot(rest)?;
+    let (third, rest) = byte_before_dot(rest)?;
+    let fourth = byte(rest)?;
+    Some(u32::from_be_bytes([first, second, third, fourth]))
 }
 
 /// The prefix that a word says.

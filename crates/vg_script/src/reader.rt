@@ -221,11 +221,17 @@ impl Reader {
         self.add_statement(line, statement)
     }
 
-    /// Reads a line.
-    pub fn read_line(&mut self, line: u32, bytes: &[u8]) -> Result<(), ScriptCause>
+    /// Reads a line, of which may be known that it is plain.
+    pub fn read_line(
+        &mut self,
+        line: u32,
+        bytes: &[u8],
+        is_known_plain: bool,
+    ) -> Result<(), ScriptCause>
+        requires { is_known_plain ≡ true → list_all plain bytes.now ≡ true }
         ensures { Reads (with_line line self.old bytes.now) self.new result }
     {
-        match before_comment(bytes) {
+        match before_comment(bytes, is_known_plain) {
             Some(text) => self.read_words(line, &mut Words::of(text)),
             None => Err(ScriptCause::Bytes),
         }
@@ -255,10 +261,14 @@ fn push<T: Drop>(items: &mut Vec<T>, item: T) -> Result<(), ScriptCause>
     items.push(item).map_err(|_| ScriptCause::Memory)
 }
 
-/// What stands before a line's comment; `None` where a byte there isn't allowed.
-fn before_comment(line: &[u8]) -> Option<&[u8]>
+/// What stands before a line's comment; `None` where a byte there isn't allowed. Of the line may be known that it is plain.
+fn before_comment(line: &[u8], is_known_plain: bool) -> Option<&[u8]>
+    requires { is_known_plain ≡ true → list_all plain line.now ≡ true }
     ensures { MatchOption result (list_all allowed (without_comment line.now) ≡ false) (λ text. (text.now ≡ without_comment line.now) × (list_all allowed text.now ≡ true)) }
 {
+    if is_known_plain {
+        return Some(line);
+    }
     let Some(place) = line.iter().position(|byte| !is_plain(*byte)) else {
         return Some(line);
     };
@@ -270,7 +280,7 @@ fn before_comment(line: &[u8]) -> Option<&[u8]>
 }
 
 /// Whether the byte may stand outside comments and begins none.
-fn is_plain(byte: u8) -> bool
+pub fn is_plain(byte: u8) -> bool
     ensures { result ≡ plain byte }
 {
     // The visible characters but for `#`, and the blanks. Most bytes are of the one range.

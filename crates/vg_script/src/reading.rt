@@ -1,12 +1,13 @@
 //! Reading the text of a script.
-ghost use Rattle.std.specs.Prelude.{◌≡◌, ◌≢◌, ◌==◌, IfOk};
-ghost use Rattle.std.specs.List.{before_first, after_first};
+ghost use Rattle.std.specs.Prelude.{◌≡◌, ◌≢◌, ◌==◌, true, IfOk};
+ghost use Rattle.std.specs.List.{before_first, after_first, list_all};
 ghost use Rattle.vg_script.specs.Lawful.{IsScript, IsLawful};
+ghost use Rattle.vg_script.specs.Lines.{is_plain as plain};
 ghost use Rattle.vg_script.specs.Reading.{AnswersRead};
 
 use crate::classes::split_at;
 use crate::errors::{ScriptCause, ScriptError};
-use crate::reader::Reader;
+use crate::reader::{Reader, is_plain};
 use crate::scripts::Script;
 use memchr::memchr;
 use std::alloc::Global;
@@ -37,8 +38,8 @@ pub fn parse_script(alloc: Global, text: &[u8]) -> Result<Script, ScriptError>
     let mut line = 1;
     let mut rest = text;
     while !rest.is_empty() {
-        let (bytes, others) = first_line(rest);
-        if let Err(cause) = reader.read_line(line, bytes) {
+        let (bytes, others, is_known_plain) = first_line(rest);
+        if let Err(cause) = reader.read_line(line, bytes, is_known_plain) {
             return Err(refusal(line, cause));
         }
         line += 1;
@@ -47,12 +48,20 @@ pub fn parse_script(alloc: Global, text: &[u8]) -> Result<Script, ScriptError>
     reader.finish(line - 1)
 }
 
-/// The first line of a text, and what stands behind its line feed.
-fn first_line(text: &[u8]) -> (&[u8], &[u8])
+/// The first line of a text, what stands behind its line feed, and whether the line was seen to be plain: without a comment, and all of it allowed.
+fn first_line(text: &[u8]) -> (&[u8], &[u8], bool)
     ensures before { result.0.now ≡ before_first (λ byte. byte == 10) text.now }
     ensures after { result.1.now ≡ after_first (λ byte. byte == 10) text.now }
+    ensures plain { result.2 ≡ true → list_all plain result.0.now ≡ true }
 {
-    split_at(text, memchr(b'\n', text))
+    // A line feed is not plain: most lines end at the first such byte.
+    match text.iter().position(|byte| !is_plain(*byte)) {
+        Some(place) if text[place] == b'\n' => (&text[..place], &text[place + 1..], true),
+        _ => {
+            let (bytes, others) = split_at(text, memchr(b'\n', text));
+            (bytes, others, false)
+        }
+    }
 }
 
 /// The refusal of a line; no line is named where memory ran out.

@@ -89,6 +89,10 @@ impl Keyword {
     pub fn of(word: &[u8]) -> Option<Keyword>
         ensures { row_of word.now ≡ option_map keyword_row result }
     {
+        // Most statements of a long script are routes.
+        if Keyword::Route.is(word) {
+            return Some(Keyword::Route);
+        }
         Keyword::ALL
             .iter()
             .find(|keyword| keyword.is(word))

@@ -1,3 +1,4 @@
+-- For `place_in_order`: behind all, and the search by halves.
 use Rattle.std.proofs.Common.{◌+◌, ◌-◌, ◌/◌, ◌<◌, ℕ, length, sym, subst, ◌∙◌, arith, inl, inr}
 use Rattle.std.proofs.lemmas.Bool.{cases_order}
 use Rattle.vg_model.specs.Route.{ip4}
@@ -33,6 +34,12 @@ loop-from-preserved c =
       lower = c.loop-from.invariant.lower;
       higher = higher_from (ranks ip4 c.args.routes.now) c.args.order.now middle c.rank-wanted.result c.requires above;
     }
+
+pub returns-then-come_before : goal.returns-then-come_before
+returns-then-come_before c =
+    let gap : IsGap (ranks ip4 c.args.routes.now) c.args.order.now (rank ip4 c.args.prefix) (length c.args.order.now) =
+    subst (λ r. IsGap (ranks ip4 c.args.routes.now) c.args.order.now r (length c.args.order.now)) c.rank-wanted.ensures (c.come_before.ensures c.if-come_before.true) in
+    (gap_none are4 c.args.prefix c.args.routes.now c.args.order.now (length c.args.order.now) c.requires gap, gap)
 
 pub returns-then-here-wanted : goal.returns-then-here-wanted
 returns-then-here-wanted c =

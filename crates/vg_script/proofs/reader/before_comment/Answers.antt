@@ -2,8 +2,11 @@
 use Rattle.std.proofs.Common.{sym, rules, tests, ◌∙◌}
 use Rattle.std.proofs.lemmas.Iterator.{YieldsList-from_slice}
 use Rattle.std.proofs.lemmas.Iterator.Search.{position_from_yields_List}
-use Rattle.vg_script.proofs.CommentLemmas.{is_other, plain_line, commented_line, bad_line}
+use Rattle.vg_script.proofs.CommentLemmas.{is_other, known_plain, plain_line, commented_line, bad_line}
 use Rattle.vg_script.proofs.reader.before_comment.Goals as goal
+
+pub returns-then-is_known_plain : goal.returns-then-is_known_plain
+returns-then-is_known_plain c = known_plain c.args.line.now (c.requires c.if-is_known_plain.true)
 
 pub returns-in_default : goal.returns-in_default
 returns-in_default c =

@@ -7,15 +7,15 @@ use Rattle.vg_script.proofs.reading.parse_script.Goals as goal
 pub returns-in-Err-clause-exact : goal.returns-in-Err-clause-exact
 returns-in-Err-clause-exact c =
     let some : 0 < length c.loop-rest.rest.now = grind (arith, nat_tests, c.loop-rest-test.ensures) in
-    read_refused c.args.text.now c.loop-rest.line c.loop-rest.rest.now c.first_line.result.0.now c.first_line.result.1.now c.loop-rest.reader c.in-Err.cause c.refusal.result
-    (omega arith) c.loop-rest.invariant some c.first_line.ensures.before c.first_line.ensures.after c.in-Err.ensures
+    read_refused c.args.text.now c.loop-rest.line c.loop-rest.rest.now c.first_line-is_known_plain.result.0.now c.first_line-is_known_plain.result.1.now c.loop-rest.reader c.in-Err.cause c.refusal.result
+    (omega arith) c.loop-rest.invariant some c.first_line-is_known_plain.ensures.before c.first_line-is_known_plain.ensures.after c.in-Err.ensures
     c.refusal.ensures.cause c.refusal.ensures.line c.refusal.ensures.memory
 
 pub loop-rest-preserved : goal.loop-rest-preserved
 loop-rest-preserved c =
     let some : 0 < length c.loop-rest.rest.now = grind (arith, nat_tests, c.loop-rest-test.ensures) in
-    read_next c.args.text.now c.loop-rest.line _ c.loop-rest.rest.now c.first_line.result.0.now c.first_line.result.1.now c.loop-rest.reader _
-    refl c.loop-rest.invariant some c.first_line.ensures.before c.first_line.ensures.after c.in_default.ensures
+    read_next c.args.text.now c.loop-rest.line _ c.loop-rest.rest.now c.first_line-is_known_plain.result.0.now c.first_line-is_known_plain.result.1.now c.loop-rest.reader _
+    refl c.loop-rest.invariant some c.first_line-is_known_plain.ensures.before c.first_line-is_known_plain.ensures.after c.in_default.ensures
 
 pub returns-clause-exact : goal.returns-clause-exact
 returns-clause-exact c =
