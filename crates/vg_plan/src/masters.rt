@@ -1,5 +1,5 @@
 //! The graph and the routes that main edits, event by event.
-ghost use Rattle.std.specs.Prelude.{◌≡◌, ◌≢◌, ◌<◌, IfOk, IfErr, OnOk, OnErr, MatchOption, MatchResult, Ok, Some, None, slice_get, length};
+ghost use Rattle.std.specs.Prelude.{◌≡◌, ◌≢◌, ◌⊎◌, ◌<◌, ◌∷◌, [], IfOk, IfErr, OnOk, OnErr, MatchOption, MatchResult, Ok, Some, None, slice_get, length};
 ghost use Rattle.vg_model.specs.Start.{start_graph};
 ghost use Rattle.vg_model.specs.Valid.{IsRouteWithin};
 ghost use Rattle.std.specs.List.{AllByRecursion};
@@ -16,7 +16,7 @@ use std::marker::Model;
 use std::mem::replace;
 use vg_fib::{Fib, Fib6, FibError};
 use vg_graph::{Graph, GraphError};
-use vg_model::{Edit, Edits, Members, Memory, Name, Prefix, Prefix6, RouteTo, RouteWord};
+use vg_model::{Edit, EditLine, Edits, Members, Memory, Name, Prefix, Prefix6, RouteTo, RouteWord};
 use vg_script::{ScriptCause, ScriptError};
 
 /// A graph and its tables of routes: one whole graph, which is valid.
@@ -72,6 +72,7 @@ pub fn out_of_memory() -> ScriptError
 fn refusal(line: u32, cause: ScriptCause) -> ScriptError
     ensures memory { cause ≡ ScriptCause.Memory → result ≡ memory_ran_out }
     ensures edit { cause ≢ ScriptCause.Memory → result ≡ record { line = line; cause = cause } }
+    ensures either { (result ≡ memory_ran_out) ⊎ ((cause ≢ ScriptCause.Memory) × (result ≡ record { line = line; cause = cause })) }
 {
     match cause {
         ScriptCause::Memory => out_of_memory(),
@@ -157,6 +158,9 @@ impl Master {
         ensures refused { IfErr result (IsRefusalOf (apply_all self.old edits.now)) }
         ensures same { OnErr result (self.new ≡ self.old) }
     {
+        if let [only] = edits.as_slice() {
+            return self.make_one(only);
+        }
         let spare = self.spare.take();
         let Ok(mut after) = self.copy(alloc, spare) else {
             return Err(out_of_memory());
@@ -164,6 +168,18 @@ impl Master {
         after.make(edits)?;
         let Master { fib, fib6, .. } = replace(self, after);
         self.spare = Some((fib, fib6));
+        Ok(())
+    }
+
+    // Makes the edit of a group that has no other, in place: an edit that is refused changes nothing.
+    fn make_one(&mut self, only: &EditLine) -> Result<(), ScriptError>
+        ensures made { OnOk result (apply_all self.old (only.now ∷ []) ≡ Ok self.new) }
+        ensures refused { IfErr result (IsRefusalOf (apply_all self.old (only.now ∷ []))) }
+        ensures same { OnErr result (self.new ≡ self.old) }
+    {
+        if let Err(cause) = self.edit(&only.edit) {
+            return Err(refusal(only.line, cause));
+        }
         Ok(())
     }
 
