@@ -31,13 +31,15 @@ fn put_header(list: &mut [u8], at: usize, marks: Marks, len: u32)
     put_number(list, at + 12, marks.original);
 }
 
-/// Copies 32 bytes.
+/// Copies 32 bytes. All are read before one is written, so it is not asked whether the lists overlap.
 #[inline]
 fn copy_32(to: &mut [u8], from: &[u8], at: usize)
     requires within { (at + 32 ≤ length to.old) × (at + 32 ≤ length from.now) }
     ensures { to.new ≡ take at to.old ++ (slice_range from.now at (at + 32) ++ drop (at + 32) to.old) }
 {
-    to[at..at + 32].copy_from_slice(&from[at..at + 32]);
+    let mut bytes = [0; 32];
+    bytes.copy_from_slice(&from[at..at + 32]);
+    to[at..at + 32].copy_from_slice(&bytes);
 }
 
 /// Copies bytes. 32 to 64 of them, as a small packet has, are copied as the first 32 and the last 32, in line.
