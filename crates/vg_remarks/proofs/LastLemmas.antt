@@ -1,11 +1,17 @@
 -- For `lasts`: the bits of addresses.
-use Rattle.std.proofs.Common.{◌≡◌, ◌≢◌, ℕ, ◌/◌, ◌%◌, ◌<◌, Bool, true, false, List, length, get_or, set, refl, sym, ap, ◌∙◌, inl, inr, arith, length-set, get_or-set_same, get_or-set_other}
-use Rattle.std.specs.Prelude.{◌==◌, ◌||◌, cond}
+use Rattle.std.proofs.Common.{◌≡◌, ◌≢◌, ℕ, ◌/◌, ◌%◌, ◌<◌, Bool, true, false, List, [], ◌∷◌, ◌++◌, Result, Ok, Err, length, get_or, set, refl, sym, ap, ◌∙◌, inl, inr, arith, length-set, get_or-set_same, get_or-set_other}
+use Rattle.std.specs.Prelude.{◌==◌, ◌||◌}
 use Rattle.std.specs.BTreeMap.{is_at}
-use Rattle.std.specs.Cmp.{unsigned_tied}
+use Rattle.std.specs.Cmp.{nat_eq_equiv, unsigned_tied}
 use Rattle.std.specs.Int.{bit_at}
+use Rattle.std.specs.List.Sorted.{IsBinarySearchResult, IsNonDecreasing}
 use Rattle.std.specs.Ordering.{nat_cmp}
-use Rattle.std.proofs.lemmas.Bool.{cases_eq, eq-eqb, eqb-true, false_from_ne_true, false≢true}
+use Rattle.std.specs.Result.{is_ok}
+use Rattle.std.proofs.Math.Bool.{or-false}
+use Rattle.std.proofs.lemmas.Bool.{cases_eq, cases_lt, eq-eqb, eqb-true, false_from_ne_true, false≢true, ne_eqb}
+use Rattle.std.proofs.lemmas.List.{get_or_default}
+use Rattle.std.proofs.lemmas.List.Folds.{list_any-append, list_any_at, list_any_none}
+use Rattle.std.proofs.lemmas.List.Sorted.{searched}
 use Rattle.vg_remarks.specs.Lasts.{has, is_marked, AreMarked, IsMarkedBesides}
 
 -- a bit of a number is set, and the others are as they were
@@ -50,17 +56,15 @@ marked_besides marks address value whole sets =
           (eqb-true (bit_at (get_or marks (other / 64 % 1024) 0) (other % 64)) 1 was));
     }
 
-or_last : (b c : Bool) → cond b true c ≡ (c || b)
-or_last true true = refl
-or_last true false = refl
-or_last false true = refl
-or_last false false = refl
+-- one address more
+pub has_push : (addresses : List ℕ) (address other : ℕ) → has (addresses ++ address ∷ []) other ≡ (has addresses other || address == other)
+has_push addresses address other =
+    list_any-append (is_at (nat_cmp other)) addresses (address ∷ [])
+    ∙ ap (λ b. has addresses other || b) (or-false (is_at (nat_cmp other) address) ∙ (unsigned_tied other address ∙ nat_eq_equiv.symm other address))
 
--- one address more, in the words of a set that has one key more
-pub has_more : (old new : List ℕ) (address other : ℕ) → has new other ≡ cond (is_at (nat_cmp address) other) true (has old other)
-    → has new other ≡ (has old other || address == other)
-has_more old new address other more =
-    more ∙ (ap (λ b. cond b true (has old other)) (unsigned_tied address other) ∙ or_last (address == other) (has old other))
+-- no addresses have no bits
+pub none_marked : (marks : List ℕ) → length marks ≡ 1024 → AreMarked [] marks
+none_marked marks whole = record { whole = whole; marked = λ address is. absurd (false≢true is) }
 
 -- one address more, whose bit is set
 marked_one : (old marks : List ℕ) (address other : ℕ) (b : Bool) → has old other ≡ b → AreMarked old marks → is_marked marks address ≡ true
@@ -80,3 +84,19 @@ marked_more old new marks now address are besides more = record {
 -- an address whose bit isn't set is none of them
 pub not_marked : (addresses marks : List ℕ) (address : ℕ) → AreMarked addresses marks → is_marked marks address ≡ false → has addresses address ≡ false
 not_marked addresses marks address are none = false_from_ne_true (has addresses address) (λ e. false≢true (sym none ∙ are.marked address e))
+
+-- what a binary search says of addresses that rise
+pub search_is : (addresses : List ℕ) (address : ℕ) (r : Result ℕ ℕ) → IsNonDecreasing addresses → IsBinarySearchResult (λ other. nat_cmp other address) addresses r
+    → is_ok r ≡ has addresses address
+search_is addresses address (Ok i) rises is =
+    let there = searched addresses address (Ok i) is (λ j k le lt. rises j k 0 le lt) in
+    sym (list_any_at (is_at (nat_cmp address)) addresses i 0 there.0 (unsigned_tied address (get_or addresses i 0) ∙ eq-eqb address (get_or addresses i 0) (sym there.1)))
+search_is addresses address (Err i) rises is =
+    let there = searched addresses address (Err i) is (λ j k le lt. rises j k 0 le lt) in
+    sym (list_any_none (is_at (nat_cmp address)) addresses (λ k d within.
+    let read : get_or addresses k d ≡ get_or addresses k 0 = get_or_default addresses k d 0 within in
+    unsigned_tied address (get_or addresses k d)
+    ∙ ne_eqb address (get_or addresses k d) (λ same. elim (cases_lt k i) [
+      | inl before ↦ let below = there.1 k before in omega (arith, below, same, read)
+      | inr behind ↦ let above = there.2 k behind within in omega (arith, above, same, read)
+    ])))

@@ -54,13 +54,25 @@ fn is_multicast(prefix: &Prefix) -> bool
 }
 
 // Puts the last address of a prefix to others, where it may be a network's.
-fn add_last(lasts: &mut LastAddresses, prefix: &Prefix) -> Result<(), AllocError>
-    ensures { OnOk result ((address : ℕ) → has lasts.new address ≡ (has lasts.old address || (network prefix.now && last_of prefix.now == address))) }
+#[tactic(auto, using(crate::proofs::LastLemmas::has_push))]
+fn add_last(lasts: &mut Vec<u32>, prefix: &Prefix) -> Result<(), AllocError>
+    ensures { OnOk result ((address : ℕ) → has lasts.new.items address ≡ (has lasts.old.items address || (network prefix.now && last_of prefix.now == address))) }
 {
     if is_network(prefix) {
-        lasts.add(last_address(prefix))?;
+        lasts.push(last_address(prefix))?;
     }
     Ok(())
+}
+
+// The last addresses of the prefixes that may be networks'.
+fn last_addresses(alloc: Global, led: &[Prefix]) -> Result<Vec<u32>, AllocError>
+    ensures { IfOk result (λ lasts. (address : ℕ) → has lasts.items address ≡ directed led.now address) }
+{
+    let mut lasts = Vec::new(alloc);
+    for prefix in led {
+        add_last(&mut lasts, prefix)?;
+    }
+    Ok(lasts)
 }
 
 // Whether the first byte of an address is that of addresses which are of a class wherever they occur.
@@ -118,12 +130,9 @@ impl Known {
     pub fn of(alloc: Global, led: &[Prefix]) -> Result<Known, AllocError>
         ensures { IfOk result (IsKnown led.now) }
     {
-        let mut lasts = LastAddresses::new(alloc)?;
-        for prefix in led {
-            add_last(&mut lasts, prefix)?;
-        }
+        let addresses = last_addresses(alloc, led)?;
         Ok(Known {
-            lasts,
+            lasts: LastAddresses::of(alloc, addresses)?,
             special: special_addresses(alloc, led)?,
             groups: group_addresses(alloc, led)?,
         })

@@ -10,4 +10,4 @@ returns-else-is_marked c =
     let unmarked = ap (λ marks. is_marked marks address) (sym c.as_slice.ensures.value) ∙ (sym c.is_marked.ensures ∙ c.if-is_marked.false) in
     c.if-is_marked.false
     ∙ sym (ap (λ addresses. has addresses address) (sym c.self.view_is)
-    ∙ not_marked c.self.inside.addresses.keys c.self.inside.marks.items address c.self.invariant unmarked)
+    ∙ not_marked c.self.inside.addresses.items c.self.inside.marks.items address c.self.invariant.1 unmarked)
