@@ -278,14 +278,20 @@ pub(crate) fn overwrite<T: Copy + Drop>(list: &mut Vec<T>, values: &[T]) -> Resu
     list.extend_from_slice(values)
 }
 
-// The places behind one that was taken out are one less.
+// Where a place stands once this one is taken out.
+#[inline]
+fn place_without(gone: u16, place: u16) -> u16
+    ensures { result ≡ moved_down gone place }
+{
+    if place > gone { place - 1 } else { place }
+}
+
+// The places behind one that was taken out are one less. All are written, so that they go many at a time.
 pub(crate) fn close_gap(order: &mut [u16], place: u16)
     ensures { order.new ≡ map (moved_down place) order.old }
 {
     for other in order.iter_mut() {
-        if *other > place {
-            *other -= 1;
-        }
+        *other = place_without(place, *other);
     }
 }
 

@@ -1,11 +1,10 @@
-use Rattle.std.proofs.Common.{◌≡◌, ℕ, ◌-◌, ◌<◌, length, get_or, refl, sym, ◌∙◌, ap, arith}
+-- For `close_gap`: the places that were looked at have moved down.
+use Rattle.std.proofs.Common.{ℕ, ◌<◌, length, get_or, ◌∙◌, ap, arith}
 use Rattle.std.proofs.Math.ListN.{set}
-use Rattle.std.proofs.lemmas.Bool.{lt-ltb, le-ltb}
 use Rattle.std.proofs.lemmas.List.{get_or_default}
 use Rattle.std.proofs.lemmas.List.Edits.{map_over_more}
 use Rattle.vg_fib.specs.Order.{moved_down}
 use Rattle.vg_fib.proofs.table.close_gap.Goals as goal
-use Rattle.vg_fib.proofs.table.close_gap.Goals.{then-other-place, else-other-place}
 
 pub loop-other-preserved : goal.loop-other-preserved
 loop-other-preserved c =
@@ -13,11 +12,4 @@ loop-other-preserved c =
     let within : c.loop-other.other-index < length c.loop-other.order = omega (arith, c.loop-other.auto.order, c.loop-other-test.true) in
     let more = map_over_more (moved_down c.args.place) c.args.order.now c.loop-other.order c.loop-other.other-index here
     c.loop-other-test.true c.loop-other.invariant (get_or_default c.loop-other.order c.loop-other.other-index 0 here within) in
-    elim c.if-other-place.branch [
-      | then-other-place w ↦
-          let down : moved_down c.args.place here ≡ here - 1 = rw (lt-ltb c.args.place here w.if-other-place.true) refl in
-          w.order-is ∙ ap (set c.loop-other.order c.loop-other.other-index) (sym down) ∙ more
-      | else-other-place w ↦
-          let stays : moved_down c.args.place here ≡ here = rw (le-ltb c.args.place here w.if-other-place.false) refl in
-          w.order-is ∙ ap (set c.loop-other.order c.loop-other.other-index) (sym stays) ∙ more
-    ]
+    ap (set c.loop-other.order c.loop-other.other-index) c.place_without.ensures ∙ more
