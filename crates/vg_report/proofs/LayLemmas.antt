@@ -20,19 +20,15 @@ two_laid list at a b fits =
     ∙ ap (λ l. l ++ b ∷ []) (take_more_set list at a (omega (arith, fits)))
     ∙ append_assoc (take at list) (a ∷ []) (b ∷ [])
 
--- four bytes, stored one behind the other
-pub four_laid : (list : List ℕ) (at a b c d : ℕ) → at + 4 ≤ length list
-    → take (at + 4) (set (set (set (set list at a) (at + 1) b) (at + 2) c) (at + 3) d) ≡ take at list ++ a ∷ b ∷ c ∷ d ∷ []
-four_laid list at a b c d fits =
+-- three bytes, stored one behind the other
+pub three_laid : (list : List ℕ) (at a b c : ℕ) → at + 3 ≤ length list
+    → take (at + 3) (set (set (set list at a) (at + 1) b) (at + 2) c) ≡ take at list ++ a ∷ b ∷ c ∷ []
+three_laid list at a b c fits =
     let two = set (set list at a) (at + 1) b in
-    let long : length two ≡ length list = length-set (set list at a) (at + 1) b ∙ length-set list at a in
-    let next : at + 2 + 1 ≡ at + 3 = omega arith in
-    let end : at + 2 + 2 ≡ at + 4 = omega arith in
-    sym (ap (λ n. take (at + 4) (set (set two (at + 2) c) n d)) next)
-    ∙ sym (ap (λ n. take n (set (set two (at + 2) c) (at + 2 + 1) d)) end)
-    ∙ two_laid two (at + 2) c d (omega (arith, long, fits))
-    ∙ ap (λ l. l ++ c ∷ d ∷ []) (two_laid list at a b (omega (arith, fits)))
-    ∙ append_assoc (take at list) (a ∷ b ∷ []) (c ∷ d ∷ [])
+    let inside : at + 2 < length two = omega (arith, length-set (set list at a) (at + 1) b, length-set list at a, fits) in
+    take-set_at two (at + 2) (at + 3) c (omega arith) inside
+    ∙ ap (λ l. l ++ c ∷ []) (two_laid list at a b (omega (arith, fits)))
+    ∙ append_assoc (take at list) (a ∷ b ∷ []) (c ∷ [])
 
 -- the number of a hundred, and two digits behind it
 digits_behind : (hundred low : ℕ) → low < 100 → 100 ≤ hundred * 100 + low → hundred * 100 + low < 2 ^ 64

@@ -16,11 +16,11 @@ end_text interfaces nodes end = further (end_words (end_by interfaces nodes end)
 abbrev pub IsReady : (interfaces nodes : List (List ℕ)) → DroppedEnd → Type 0
 IsReady interfaces nodes dropped = dropped.text ≡ end_text interfaces nodes (numbers.Dropped dropped.node dropped.error)
 
--- the packet of this number had this one leg, whose numbers have one digit, and its line ends with this text
+-- the packet of this number had this one leg, of a worker below 10 and a generation below 1,000, and its line ends with this text
 pub record IsShort (interfaces nodes : List (List ℕ)) (number : ℕ) (fate : Fate) (leg : Leg) (end : List ℕ) : Type 0 where
   pub high : 100 ≤ number
   pub worker : leg.worker < 10
-  pub generation : leg.generation < 10
+  pub generation : leg.generation < 1000
   pub legs : fate.legs ≡ leg ∷ []
   pub plain : fate.congested ≡ None
   pub ends : end ≡ end_text interfaces nodes fate.end

@@ -14,7 +14,7 @@ use vg_fates::FateRef;
 use vg_model::{DropError, End, Leg};
 
 /// How many bytes a line is laid in at most: its front, the last two digits of its number with a leg, and its end.
-pub(crate) const LINE_ROOM: usize = ROOM + 6 + ROOM;
+pub(crate) const LINE_ROOM: usize = ROOM + 8 + ROOM;
 
 // The digits of the numbers below 100, two for each.
 static PAIRS: [u8; 200] =
@@ -46,7 +46,8 @@ pub(crate) struct DroppedEnd {
     pub text: Piece,
 }
 
-/// What is laid of the line of a packet with one leg, whose two numbers have one digit: the leg, and the text from the space behind it on.
+/// What is laid of the line of a packet with one leg, of a worker below 10 and a generation below 1,000: the leg, and the text from the space behind
+/// it on.
 #[derive(Clone, Copy)]
 pub(crate) struct Short<'a> {
     pub leg: Leg,
@@ -131,28 +132,57 @@ fn lay_digits(list: &mut [u8], at: usize, number: usize) -> usize
     at + 2
 }
 
-// Lays a space, and a leg whose two numbers have one digit. Answers where they end.
+// Lays a digit, and answers where it ends.
+#[inline]
+fn lay_digit(list: &mut [u8], at: usize, digit: u8) -> usize
+    requires room { at < length list.old }
+    requires low { digit < 10 }
+    ensures end { result ≡ at + 1 }
+    ensures laid { take result list.new ≡ take at list.old ++ (48 + digit) ∷ [] }
+{
+    list[at] = b'0' + digit;
+    at + 1
+}
+
+// Lays a number below 1,000, and answers where it ends.
+#[inline]
+fn lay_number(list: &mut [u8], at: usize, number: usize) -> usize
+    requires room { at + 3 ≤ length list.old }
+    requires low { number < 1000 }
+    ensures end { result ≤ at + 3 }
+    ensures laid { take result list.new ≡ take at list.old ++ decimal number }
+{
+    if number < 10 {
+        return lay_digit(list, at, number as u8);
+    }
+    if number < 100 {
+        return lay_digits(list, at, number);
+    }
+    let tens = lay_digit(list, at, (number / 100) as u8);
+    lay_digits(list, tens, number % 100)
+}
+
+// Lays a space, and a leg of a worker below 10 and a generation below 1,000. Answers where it ends.
 #[inline]
 fn lay_leg(list: &mut [u8], at: usize, leg: Leg) -> usize
-    requires room { at + 4 ≤ length list.old }
-    requires leg { (leg.worker < 10) × (leg.generation < 10) }
-    ensures end { result ≡ at + 4 }
+    requires room { at + 6 ≤ length list.old }
+    requires leg { (leg.worker < 10) × (leg.generation < 1000) }
+    ensures end { result ≤ at + 6 }
     ensures laid { take result list.new ≡ take at list.old ++ 32 ∷ leg_text leg }
 {
     list[at] = b' ';
     list[at + 1] = b'0' + leg.worker;
     list[at + 2] = b':';
-    list[at + 3] = b'0' + leg.generation as u8;
-    at + 4
+    lay_number(list, at + 3, leg.generation as usize)
 }
 
 /// Lays the line of a packet: its front, its leg and its end. Answers where it ends.
 #[inline]
 pub(crate) fn lay_line(list: &mut [u8], at: usize, front: &Front, short: Short<'_>) -> usize
-    requires room { at + 86 ≤ length list.old }
+    requires room { at + 88 ≤ length list.old }
     requires number { (100 ≤ front.now) × (front.now < 2 ^ 64) }
-    requires leg { (short.leg.worker < 10) × (short.leg.generation < 10) }
-    ensures end { result ≤ at + 86 }
+    requires leg { (short.leg.worker < 10) × (short.leg.generation < 1000) }
+    ensures end { result ≤ at + 88 }
     ensures laid { take result list.new ≡ take at list.old ++ ((codes "packet " ++ decimal front.now) ++ 32 ∷ (leg_text short.entry.leg ++ short.entry.end.now)) }
 {
     let front_end = front.lay(list, at);
@@ -204,7 +234,7 @@ pub(crate) fn short_of<'a>(
 {
     match fate {
         FateRef::Plain { leg, end, .. } => {
-            if !front.is_high() || leg.worker >= 10 || leg.generation >= 10 {
+            if !front.is_high() || leg.worker >= 10 || leg.generation >= 1000 {
                 return None;
             }
             match ready_end(end, names, sent, dropped) {

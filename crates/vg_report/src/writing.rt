@@ -298,7 +298,7 @@ fn put_behind(
 fn put_full(out: &mut Vec<u8>, window: &[u8], at: usize) -> Result<usize, AllocError>
     requires window { length window.now ≡ 2048 }
     requires within { at ≤ 2048 }
-    ensures room { IfOk result (λ rest. rest + 86 ≤ 2048) }
+    ensures room { IfOk result (λ rest. rest + 88 ≤ 2048) }
     ensures all { IfOk result (λ rest. out.new.items ++ take rest window.now ≡ out.old.items ++ take at window.now) }
 {
     if at <= WINDOW - LINE_ROOM {

@@ -9,7 +9,7 @@ use Rattle.vg_report.proofs.writing.put_lines_by.Given as goal
 abbrev pub invariant-loop-number : goal.invariant-loop-number
 invariant-loop-number l = record {
   text : l.out.items ++ take l.at l.window ≡ l.fn.out.items ++ flat_map line_text (numbered packet_line 0 (take l.number (lines_of l.names.interfaces.now l.names.nodes.now l.names.fates.now)));
-  room : l.at + 86 ≤ 2048;
+  room : l.at + 88 ≤ 2048;
   front : l.front ≡ l.number;
   ready : IfSome l.dropped (IsReady l.names.interfaces.now l.names.nodes.now);
 }
